@@ -1,0 +1,5 @@
+pub mod Flash
+pub mod Faults
+pub mod Ranges
+pub mod Steps
+pub mod Plans
