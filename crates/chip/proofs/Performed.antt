@@ -42,10 +42,10 @@ broken p ps s t f a o h =
     ⊎-elim
     (λ x. absurd (x .1 a))
     (⊎-elim
-      (λ x. absurd (on-off (s .on) o (x .2)))
-      (λ x.
-        let P : Fault → Type 0 = λ g. Performs (p ∷ ps) s (Err g) t in
-        subst P (sym (cut-is f (s .home (block p)) (x .0))) (plans.cut (x .1))))
+    (λ x. absurd (on-off (s .on) o (x .2)))
+    (λ x.
+    let P : Fault → Type 0 = λ g. Performs (p ∷ ps) s (Err g) t in
+    subst P (sym (cut-is f (s .home (block p)) (x .0))) (plans.cut (x .1))))
     h
 
 -- the exit of a `?` after a step

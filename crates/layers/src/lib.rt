@@ -1,0 +1,3 @@
+// Chips made of other chips: a window on one, and a joint of two.
+pub mod joint;
+pub mod window;
