@@ -81,3 +81,36 @@ tries-then (plans.next w rest) q = plans.next w (tries-then rest q)
 pub tries-less : (qs : List Step) {ps : List Step} {s t : Flash} {f : Fault} → Tries ps s (Err f) t → Tries (ps ++ qs) s (Err f) t
 tries-less qs (plans.next w rest) = plans.next w (tries-less qs rest)
 tries-less qs (plans.stop h) = plans.stop h
+
+-- the steps of two plans are allowed where those of each are
+pub all-both : (ps qs : List Step) (s : Flash) → All-allowed ps s → All-allowed qs s → All-allowed (ps ++ qs) s
+all-both [] qs s a b = b
+all-both (p ∷ ps) qs s a b = (a .0, all-both ps qs s (a .1) b)
+
+-- a plan that was performed whole, in two parts
+pub performs-parts : (ps : List Step) {qs : List Step} {s t : Flash} → Performs (ps ++ qs) s (Ok tt) t → (m : Flash) × Performs ps s (Ok tt) m × Performs qs m (Ok tt) t
+performs-parts [] {qs} {s} h = (s, plans.whole, h)
+performs-parts (p ∷ ps) (plans.next w rest) = let x = performs-parts ps rest in (x .0, plans.next w (x .1), x .2)
+
+-- a plan that was not performed whole was cut
+pub only-cut : {ps : List Step} {s t : Flash} {f : Fault} → Performs ps s (Err f) t → (h : Home) × (f ≡ Cut h)
+only-cut (plans.next w rest) = only-cut rest
+only-cut (plans.cut {p} {ps} {s} b) = (s .home (block p), refl)
+
+frame-trans : (s m t : Flash) → Frame s m → Frame m t → Frame s t
+frame-trans s m t f g = record { blocks = g .blocks ∙ f .blocks; home = λ b. g .home b ∙ f .home b }
+
+torn-frame : (p : Step) (s t : Flash) → Broke p s t → Frame s t
+torn-frame (program b at size given) s t w = w .torn .elsewhere .frame
+torn-frame (erase b) s t w = w .torn .elsewhere .frame
+
+-- a plan keeps the number of blocks and the homes, however far it comes
+pub performed-frame : {ps : List Step} {s t : Flash} {r : Result (Unit {0}) Fault} → Performs ps s r t → Frame s t
+performed-frame plans.whole = record { blocks = refl; home = λ b. refl }
+performed-frame (plans.next {p} {ps} {s} {m} {t} w rest) = frame-trans s m t (kept p s m w) (performed-frame rest)
+performed-frame (plans.cut {p} {ps} {s} {t} b) = torn-frame p s t b
+
+-- a chip that has performed a plan whole has power, if it had
+pub performs-on : {ps : List Step} {s t : Flash} → Performs ps s (Ok tt) t → s .on ≡ true → t .on ≡ true
+performs-on plans.whole o = o
+performs-on (plans.next w rest) o = performs-on rest (w .on)

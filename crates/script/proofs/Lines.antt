@@ -68,3 +68,7 @@ no-letter rest c x f (Format a) l t = f (sym l)
 pub begins : (line rest : List ℕ) (c : ℕ) (o : Option Line) → line ≡ c ∷ rest → Cases o ((x : Line) → letter x ≡ c → Tail x rest → ⊥) (λ x. (letter x ≡ c) × Tail x rest) → Cases o ((x : Line) → Says line x → ⊥) (Says line)
 begins line rest c None e h = λ x s. let f = follows line rest c x e s in h x (f .0) (f .1)
 begins line rest c (Some x) e h = (rest, e ∙ ap (λ n. n ∷ rest) (sym (h .0)), h .1)
+
+-- a line has one letter
+pub one-letter : {line p q : List ℕ} {a b : ℕ} → line ≡ a ∷ p → line ≡ b ∷ q → a ≡ b
+one-letter e f = sym (ap (λ l. getD l 0 0) e) ∙ ap (λ l. getD l 0 0) f

@@ -1,0 +1,5 @@
+pub mod Fields
+pub mod Labels
+pub mod Read
+pub mod Found
+pub mod Written

@@ -1,0 +1,3 @@
+mod Written
+mod Ones
+pub mod Flashes
