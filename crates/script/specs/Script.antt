@@ -14,7 +14,7 @@ Lacks b s = (k : ℕ) → k < length s → getD s k 0 ≡ b → ⊥
 
 -- the first line of a text, and the text behind it
 pub record FirstLine (text line rest : List ℕ) : Type 0 where
-  pub some : 0 < length text
+  pub shorter : length rest < length text
   pub single : Lacks 10 line
   pub parts : (text ≡ line ++ 10 ∷ rest) ⊎ ((text ≡ line) × (rest ≡ []))
 
