@@ -2,13 +2,10 @@
 ghost use denote.Ref.{now};
 ghost use mathlib.Core.Path.{_≡_};
 ghost use mathlib.Core.Bool.{true};
-ghost use Prim.Native.Nat.{_+_, _*_};
-ghost use lib.ListN.{length};
 ghost use Rattle.chip.specs.Flash.{awake};
-ghost use Rattle.chip.specs.Ranges.{Within};
 ghost use Rattle.chip.specs.Steps.{program, erase, Answers, Reads};
 ghost use Rattle.chip.specs.declared.Fault.the-variants.{Cut};
-ghost use Rattle.rows.specs.Rows.{Bytes, Same};
+ghost use Rattle.rows.specs.Rows.{Bytes};
 ghost use Rattle.bench_chip.specs.Burns.{shown, Idle, Began, Programs, Erases};
 use chip::BLOCK;
 use chip::Block;
@@ -26,6 +23,7 @@ pub struct Plan {
     pub mask: u8,
 }
 
+// The chip: the bytes that are lent to it, its name, its power, and what is left of its plan.
 #[derive(Drop)]
 pub struct Bench<'a> {
     image: &'a mut [u8],
@@ -63,12 +61,11 @@ impl<'a> Bench<'a> {
         cut
     }
 
-    // Copies a range that there is into a buffer.
-    fn copy(&self, span: Span, into: &mut [u8])
-        requires { ⌜ Within (shown (now self) .blocks) (span .block .0) (span .at) (span .len) (length (now into)) ⌝ }
-        ensures { λ _. ⌜ Same (now (now (self .entry) .image)) (span .block .0 * 4096 + span .at) (length (now (into .entry))) (now (into .exit)) ⌝ }
+    // Copies a range into a buffer. By `&self`, so that the image is known to stay as it is.
+    fn copy(&self, span: Span, into: &mut [u8]) -> Result<(), Fault>
+        ensures { λ r. ⌜ Reads (shown (now (self .entry))) (span .block .0) (span .at) (span .len) (now (into .entry)) r (now (into .exit)) ⌝ }
     {
-        rows::copy_out(self.image, rows::place_of(span.block, span.at), into);
+        rows::read_range(self.image, self.on, span, into)
     }
 
     // Tells that power was lost in a step on a block.
@@ -97,14 +94,7 @@ pub impl<'a> Chip for Bench<'a> as BenchChip {
     }
 
     fn home(&self, block: Block) -> Home {
-        if block.0 < self.blocks() {
-            Home {
-                name: self.name,
-                block: block.0,
-            }
-        } else {
-            Home { name: 0, block: 0 }
-        }
+        rows::home_of(self.image, self.name, block)
     }
 
     fn read(&mut self, span: Span, into: &mut [u8]) -> Result<(), Fault>
@@ -112,14 +102,7 @@ pub impl<'a> Chip for Bench<'a> as BenchChip {
         ensures keeps { λ _. ⌜ shown (now (self .exit)) ≡ shown (now (self .entry)) ⌝ }
         ensures idle { λ _. ⌜ Idle (now (self .entry)) (now (self .exit)) ⌝ }
     {
-        if !span.is_within(self.blocks(), into.len()) {
-            return Err(Fault::Range);
-        }
-        if !self.on {
-            return Err(Fault::NoPower);
-        }
-        self.copy(span, into);
-        Ok(())
+        self.copy(span, into)
     }
 
     fn program(&mut self, span: Span, given: &[u8]) -> Result<(), Fault>

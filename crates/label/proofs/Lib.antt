@@ -1,1 +1,4 @@
 pub mod Notes
+pub mod Steps
+pub mod Reread
+pub mod Verdicts

@@ -25,7 +25,7 @@ repeated page n tag P None some h t lt legal = some refl
 repeated page n tag P (Some v) some h t lt legal = omega (arith, legal .once (h .0) (h .1) (h .2 ∙ sym t), t, lt)
 
 -- two fields in order with one tag that is not skipped are the same field
-unique : (page : List ℕ) (n tag j k : ℕ) → Before page n → tag < 128 → j < n → k < n → tagOf page j ≡ tag → tagOf page k ≡ tag → j ≡ k
+pub unique : (page : List ℕ) (n tag j k : ℕ) → Before page n → tag < 128 → j < n → k < n → tagOf page j ≡ tag → tagOf page k ≡ tag → j ≡ k
 unique page n tag j k b lt jn kn tj tk =
     ⊎-elim
     (λ jk. absurd (omega (arith, b k kn .0 .once j jk (tj ∙ sym tk), tk)))

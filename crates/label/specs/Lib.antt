@@ -3,3 +3,4 @@ pub mod Labels
 pub mod Read
 pub mod Found
 pub mod Written
+pub mod Pages

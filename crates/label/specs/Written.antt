@@ -2,10 +2,15 @@
 use mathlib.Core.Path.{_≡_}
 use mathlib.Core.List.{List, [], _∷_, _++_}
 use Prim.Native.Nat.{ℕ, _+_, _/_, _%_, _<_, _≤_}
-use lib.ListN.{length, take}
+use denote.Ref.{RefT}
+use lib.ListN.{length, getD, take}
 use Rattle.std.specs.declared.option.Option.{Option}
 use Rattle.std.specs.declared.option.Option.the-variants.{Some, None}
+use Rattle.std.specs.declared.result.Result.{Result}
+use Rattle.std.specs.declared.result.Result.the-variants.{Ok, Err}
 use Rattle.label.specs.declared.Sizes.{Sizes}
+use Rattle.label.specs.declared.Label.{Label}
+use Rattle.label.specs.declared.LabelFault.{LabelFault}
 use Rattle.label.specs.declared.bytes.LabelBytes.{LabelBytes}
 
 -- a number's field: tag, length 2, low byte, high byte
@@ -46,3 +51,18 @@ pub record Holding (sizes : Sizes) (name : List ℕ) (label : LabelBytes) : Type
 abbrev pub Writes : Sizes → List ℕ → Option LabelBytes → Type 0
 Writes sizes name None = 32 < length name
 Writes sizes name (Some label) = Holding sizes name label
+
+-- a page that holds a written label, and is erased behind it
+pub record Fresh (page : List ℕ) (sizes : Sizes) (name : List ℕ) : Type 0 where
+  pub whole : length page ≡ 512
+  pub bytes : (o : ℕ) → o < 512 → getD page o 0 ≡ getD (label-bytes sizes name) o 255
+
+-- the name as a label has it: an empty one is none
+abbrev pub Named : List ℕ → Option (RefT (List ℕ)) → Type 0
+Named name None = name ≡ []
+Named name (Some s) = (0 < length name) × (s .now ≡ name)
+
+-- a label of these sizes and this name is read
+abbrev pub Accepted : Sizes → List ℕ → Result Label LabelFault → Type 0
+Accepted sizes name (Ok label) = (label .sizes ≡ sizes) × Named name (label .name)
+Accepted sizes name (Err fault) = ⊥

@@ -10,9 +10,11 @@ ghost use Rattle.label.specs.Written.{number-field, name-field, Added, Writes}
 mod bytes;
 mod field;
 mod found;
+mod page;
 
 pub use self::bytes::LONGEST_LABEL;
 pub use self::bytes::LabelBytes;
+pub use self::page::first_page;
 use self::field::Field;
 use self::field::field_at;
 use self::found::Found;

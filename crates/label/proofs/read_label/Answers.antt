@@ -12,6 +12,7 @@ use Rattle.label.specs.Fields.{place, after, Before, Ends}
 use Rattle.label.specs.Labels.{Sized, States, Blank, Stray, Faulty, field, stray, sizes}
 use Rattle.label.specs.Found.{Says, Holds}
 use Rattle.label.proofs.Notes.{only}
+use Rattle.label.proofs.Steps.{past}
 use Rattle.label.proofs.read_label.Needs as need
 
 -- what the fields state is what was found
@@ -38,10 +39,6 @@ alike blocks f x y hx hy s =
       sectors-most = omega arith;
       whole = omega arith;
     }
-
--- the end field has no bytes of its own
-past : (page : List ℕ) (n at : ℕ) → Ends page n → at ≡ place page n → at + 3 ≡ after page (place page n)
-past page n at e is = omega (arith, e .legal .suits, e .end)
 
 pub returns-in-Break-found : need.returns-in-Break-found
 returns-in-Break-found c =
