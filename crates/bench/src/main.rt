@@ -21,7 +21,11 @@ fn plan_first<'a>(text: &'a [u8]) -> Option<(Plan, &'a [u8])> {
 }
 
 // Serves the lines of a text, one after another.
-fn serve_all<'a>(rt: &LibcRuntime, session: &mut Session<Bench<'a>>, text: &[u8]) -> Result<(), AnyError> {
+fn serve_all<'a>(
+    rt: &LibcRuntime,
+    session: &mut Session<Bench<'a>>,
+    text: &[u8],
+) -> Result<(), AnyError> {
     let mut rest = text;
     while let Some((line, after)) = next_line(rest) {
         let reply = session.serve(line);

@@ -12,8 +12,9 @@ use Rattle.buffered_chip.specs.Plans.{counted, powered}
 abbrev pub shown : Buffered → Flash
 shown c = flashOf (now (c .image)) (c .on) (c .name)
 
--- a call that begins no step keeps the bytes, the name and the plan
+-- a call that begins no step keeps the bytes, the page buffer, the name and the plan
 pub record Idle (s t : Buffered) : Type 0 where
+  pub page : t .page ≡ s .page
   pub image : now (t .image) ≡ now (s .image)
   pub name : t .name ≡ s .name
   pub plan : t .plan ≡ s .plan

@@ -2,12 +2,12 @@
 ghost use denote.Ref.{now};
 ghost use mathlib.Core.Path.{_≡_};
 ghost use mathlib.Core.Bool.{true};
+ghost use lib.ListN.{replicate};
 ghost use Rattle.chip.specs.Flash.{awake};
 ghost use Rattle.chip.specs.Steps.{program, erase, Answers, Reads};
 ghost use Rattle.buffered_chip.specs.Plans.{Stored, Wiped};
 ghost use Rattle.buffered_chip.specs.Buffers.{shown, Idle, Settled};
 use crate::Buffered;
-use crate::Page;
 use crate::Plan;
 use crate::steps;
 use crate::steps::Status;
@@ -22,15 +22,14 @@ impl<'a> Buffered<'a> {
     // A chip over the whole blocks of `image`, with power.
     pub fn new(image: &'a mut [u8], name: u16, plan: Plan) -> Buffered<'a>
         ensures image { λ r. ⌜ now (r .image) ≡ now (image .entry) ⌝ }
+        ensures page { λ r. ⌜ r .page ≡ replicate 512 255 ⌝ }
         ensures name { λ r. ⌜ r .name ≡ name ⌝ }
         ensures power { λ r. ⌜ r .on ≡ true ⌝ }
         ensures plan { λ r. ⌜ r .plan ≡ plan ⌝ }
     {
         Buffered {
             image,
-            page: Page {
-                bytes: [0xFF; PAGE],
-            },
+            page: [0xFF; PAGE],
             name,
             on: true,
             plan,
@@ -52,6 +51,7 @@ impl<'a> Buffered<'a> {
     fn settle(&mut self, answer: Result<(), Fault>) -> Result<(), Fault>
         ensures told { λ r. ⌜ r ≡ answer ⌝ }
         ensures image { λ _. ⌜ now (now (self .exit) .image) ≡ now (now (self .entry) .image) ⌝ }
+        ensures page { λ _. ⌜ now (self .exit) .page ≡ now (self .entry) .page ⌝ }
         ensures settled { λ _. ⌜ Settled (now (self .entry)) answer (now (self .exit)) ⌝ }
     {
         match answer {
@@ -100,10 +100,11 @@ pub impl<'a> Chip for Buffered<'a> as BufferedChip {
         ensures answers { λ r. ⌜ Answers (program (span .block .0) (span .at) (span .len) (now (given .entry))) (shown (now (self .entry))) r (shown (now (self .exit))) ⌝ }
         ensures stored { λ r. ⌜ Stored (span .block .0) (span .at) (now (given .entry)) (now (self .entry) .plan) (now (now (self .entry) .image)) r (now (now (self .exit) .image)) ⌝ }
         ensures settled { λ r. ⌜ Settled (now (self .entry)) r (now (self .exit)) ⌝ }
+        ensures ones { λ _. ⌜ now (self .exit) .page ≡ replicate 512 255 ⌝ }
     {
         let status = self.status();
         let mut page = self.page;
-        let answer = steps::store(&mut page.bytes, self.image, status, span, given);
+        let answer = steps::store(&mut page, self.image, status, span, given);
         self.page = page;
         self.settle(answer)
     }
@@ -112,6 +113,7 @@ pub impl<'a> Chip for Buffered<'a> as BufferedChip {
         ensures answers { λ r. ⌜ Answers (erase (block .0)) (shown (now (self .entry))) r (shown (now (self .exit))) ⌝ }
         ensures wiped { λ r. ⌜ Wiped (block .0) (now (self .entry) .plan) (now (now (self .entry) .image)) r (now (now (self .exit) .image)) ⌝ }
         ensures settled { λ r. ⌜ Settled (now (self .entry)) r (now (self .exit)) ⌝ }
+        ensures page { λ _. ⌜ now (self .exit) .page ≡ now (self .entry) .page ⌝ }
     {
         let status = self.status();
         let answer = steps::wipe(self.image, status, block);

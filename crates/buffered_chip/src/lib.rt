@@ -1,12 +1,10 @@
 // A chip that programs through a page buffer: its blocks lie in bytes that are lent to it, and it loses power in the
 // step that its plan names.
-ghost use mathlib.Core.Path.{_≡_};
-ghost use lib.ListN.{replicate};
-
 mod calls;
 mod steps;
 
 pub use calls::BufferedChip;
+use chip::PAGE;
 
 // Which step is cut, and how far it comes.
 #[derive(Clone, Copy, PartialEq, Eq, Debug)]
@@ -17,18 +15,12 @@ pub struct Plan {
     pub done: usize,
 }
 
-// The page buffer, which is all ones between calls.
-#[derive(Clone, Copy)]
-struct Page {
-    bytes: [u8; 512],
-    ghost ones: { bytes ≡ replicate 512 255 },
-}
-
 // The chip: the bytes that are lent to it, its page buffer, its name, its power, and what is left of its plan.
 #[derive(Drop)]
 pub struct Buffered<'a> {
     image: &'a mut [u8],
-    page: Page,
+    // All ones between calls: so it begins, so a program leaves it, and no other call touches it.
+    page: [u8; PAGE],
     name: u16,
     on: bool,
     plan: Plan,

@@ -29,7 +29,11 @@ pub impl fmt::Display for LabelLine<'_> as LabelLineDisplay {
             Ok(label) => {
                 let sizes = label.sizes;
                 let name = NameText(label.name);
-                write!(f, "label ring {} sectors {} tally {} name {name}", sizes.ring, sizes.sectors, sizes.tally)
+                write!(
+                    f,
+                    "label ring {} sectors {} tally {} name {name}",
+                    sizes.ring, sizes.sectors, sizes.tally
+                )
             }
             Err(fault) => write!(f, "label fault {}", fault.at),
         }

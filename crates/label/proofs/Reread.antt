@@ -35,8 +35,8 @@ start page = record {
     ring = λ j lt t. omega arith;
     sectors = λ j lt t. omega arith;
     tally = λ j lt t. omega arith;
-    name = λ j lt t. omega arith
-  }
+    name = λ j lt t. omega arith;
+  };
 }
 
 -- the five bytes of a number's field make it sound, and are the number
@@ -61,10 +61,10 @@ finish page n at blocks f label w room t l h blank holds name sized =
         format = subst (Noted page n 1 (Number page)) (holds .0) (w .says .format);
         ring = subst (Noted page n 2 (Number page)) (holds .1) (w .says .ring);
         sectors = subst (Noted page n 3 (Number page)) (holds .2) (w .says .sectors);
-        tally = subst (Noted page n 4 (Number page)) (holds .3) (w .says .tally)
+        tally = subst (Noted page n 4 (Number page)) (holds .3) (w .says .tally);
       };
       sized = sized;
-      name = subst (Noted page n 5 (Bytes page)) name (w .says .name)
+      name = subst (Noted page n 5 (Bytes page)) name (w .says .name);
     }
 
 -- the four numbers
@@ -107,12 +107,12 @@ body page xs x sizes fresh short len =
     let n : length (take (lenAt page 20) (drop 23 page)) ≡ m = length-take-le (lenAt page 20) (drop 23 page) (omega (arith, length-drop 23 page, fresh .whole)) ∙ len in
     same-lists (take (lenAt page 20) (drop 23 page)) name n
     (λ k d h.
-      getD-take (lenAt page 20) (drop 23 page) k d (omega arith)
-      ∙ getD-drop 23 page k d
-      ∙ getD-default page (23 + k) d 0 (omega (arith, fresh .whole))
-      ∙ after-head page xs x sizes k fresh (omega arith)
-      ∙ getD-append-left name end-field 255 k (omega arith)
-      ∙ getD-default name k 255 d (omega arith))
+    getD-take (lenAt page 20) (drop 23 page) k d (omega arith)
+    ∙ getD-drop 23 page k d
+    ∙ getD-default page (23 + k) d 0 (omega (arith, fresh .whole))
+    ∙ after-head page xs x sizes k fresh (omega arith)
+    ∙ getD-append-left name end-field 255 k (omega arith)
+    ∙ getD-default name k 255 d (omega arith))
 
 reads : (page name : List ℕ) (blocks : ℕ) (x : Sizes) (o : Option (RefT (List ℕ))) → length name ≤ 32 → Sized blocks x → Fresh page x name → Named name o → Good page blocks (record { sizes = x; name = o })
 reads page [] blocks x None short sized fresh named =

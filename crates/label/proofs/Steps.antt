@@ -147,7 +147,7 @@ walk page n at old new f w sound is other taken =
       reached = e ∙ ap (place page) (sym (add-one n));
       inside = omega (arith, e, s .0);
       before = below-more _ _ (w .before) (record { extent = s .0; suits = s .1; once = once page n tt old new f (w .before) i (w .says) taken }, more page n f i other);
-      says = says page n tt old new f i (w .says) taken
+      says = says page n tt old new f i (w .says) taken;
     }
 
 -- the end field has no bytes of its own

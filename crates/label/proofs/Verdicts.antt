@@ -111,8 +111,8 @@ fresh-page page name x whole front rest =
     record {
       whole = whole;
       bytes =
-        λ o lt. ⊎-elim
-        (λ below. sym (getD-take n page o 0 below) ∙ ap (λ l. getD l o 0) front ∙ getD-default label o 0 255 below)
-        (λ above. rest o above lt ∙ sym (getD-past label o 255 above))
-        (cases-lt o n)
+          λ o lt. ⊎-elim
+          (λ below. sym (getD-take n page o 0 below) ∙ ap (λ l. getD l o 0) front ∙ getD-default label o 0 255 below)
+          (λ above. rest o above lt ∙ sym (getD-past label o 255 above))
+          (cases-lt o n);
     }

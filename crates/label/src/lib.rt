@@ -14,10 +14,10 @@ mod page;
 
 pub use self::bytes::LONGEST_LABEL;
 pub use self::bytes::LabelBytes;
-pub use self::page::first_page;
 use self::field::Field;
 use self::field::field_at;
 use self::found::Found;
+pub use self::page::first_page;
 
 // The format number that a label states.
 pub const FORMAT: u16 = 1;

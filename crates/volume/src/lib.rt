@@ -8,7 +8,9 @@ mod refusal;
 
 pub use self::refusal::Numbers;
 pub use self::refusal::Refusal;
+pub use self::refusal::RefusalDebug;
 use self::refusal::RefusalFromFault;
+pub use self::refusal::RefusalPartialEq;
 use chip::Chip;
 use label::LabelBytes;
 use label::Sizes;
