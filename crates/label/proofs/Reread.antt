@@ -2,19 +2,18 @@
 use mathlib.Core.Path.{_≡_, refl, sym, ap, subst, _∙_}
 use mathlib.Core.Logic.{inl, inr}
 use mathlib.Core.List.{List, [], _∷_, _++_}
-use Prim.Native.Nat.{ℕ, _+_, _-_, _*_, _/_, _%_, _≤_, _<_}
+use Prim.Native.Nat.{ℕ, _+_, _-_, _/_, _%_, _≤_, _<_}
 use native.Mathlib.Omega.{arith}
 use denote.Ref.{RefT}
 use lib.ListN.{length, getD, take, drop, length-drop}
-use Rattle.std.proofs.shelf.Lists.{getD-append-add, getD-append-left, getD-past, getD-default, getD-take, getD-drop, length-take-le, same-lists, length-append}
+use Rattle.std.proofs.shelf.Lists.{getD-append-add, getD-append-left, getD-past, getD-default, getD-take, getD-drop, length-take-le, same-lists}
 use Rattle.std.specs.declared.option.Option.{Option}
 use Rattle.std.specs.declared.option.Option.the-variants.{Some, None}
-use Rattle.std.specs.declared.result.Result.the-variants.{Ok}
 use Rattle.label.specs.declared.Sizes.{Sizes}
 use Rattle.label.specs.declared.Label.{Label}
-use Rattle.label.specs.declared.field.Field.the-variants.{Format, Ring, Sectors, Tally, Name, End}
+use Rattle.label.specs.declared.field.Field.the-variants.{Format, Ring, Sectors, Tally, Name}
 use Rattle.label.specs.declared.found.Found.{Found}
-use Rattle.label.specs.Fields.{wordAt, tagAt, lenAt, bodyAt, place, after, Suits, Ends, Noted, Number, Bytes}
+use Rattle.label.specs.Fields.{tagAt, lenAt, bodyAt, place, Ends, Noted, Number, Bytes}
 use Rattle.label.specs.Labels.{Sized, Blank, Good}
 use Rattle.label.specs.Read.{Sound}
 use Rattle.label.specs.Found.{Holds}

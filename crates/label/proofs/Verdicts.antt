@@ -2,7 +2,7 @@
 use mathlib.Core.Path.{_≡_, refl, sym, ap, subst, _∙_}
 use mathlib.Core.Logic.{⊎-elim}
 use mathlib.Core.List.{List, [], _∷_}
-use Prim.Native.Nat.{ℕ, _+_, _≤_, _<_}
+use Prim.Native.Nat.{ℕ, _≤_, _<_}
 use native.Mathlib.Omega.{arith}
 use denote.Ref.{RefT}
 use lib.ListN.{length, getD, take}
@@ -15,7 +15,7 @@ use Rattle.std.specs.declared.result.Result.the-variants.{Ok, Err}
 use Rattle.label.specs.declared.Sizes.{Sizes}
 use Rattle.label.specs.declared.Label.{Label}
 use Rattle.label.specs.declared.LabelFault.{LabelFault}
-use Rattle.label.specs.Fields.{place, after, bodyAt, Legal, Before, Ends, Noted, Number, Bytes}
+use Rattle.label.specs.Fields.{place, after, bodyAt, Legal, Before, Ends, Noted, Bytes}
 use Rattle.label.specs.Labels.{Sized, States, Blank, Good, Faulty, no-blocks, field, stray, sizes, Labelled}
 use Rattle.label.specs.Written.{label-bytes, Fresh, Named, Accepted}
 use Rattle.label.proofs.Notes.{unique, only}

@@ -2,7 +2,6 @@
 use mathlib.Core.Path.{_≡_}
 use mathlib.Core.List.{List}
 use Prim.Native.Nat.{ℕ}
-use denote.Ref.{RefT}
 use Rattle.std.specs.declared.option.Option.{Option}
 use Rattle.std.specs.declared.option.Option.the-variants.{Some, None}
 use Rattle.std.specs.declared.result.Result.{Result}
@@ -40,6 +39,7 @@ Taken old (End at) (Err fault) new = ⊥
 abbrev pub Holds : Found → Sizes → Type 0
 Holds f x = (f .format ≡ Some 1) × (f .ring ≡ Some (x .ring)) × (f .sectors ≡ Some (x .sectors)) × (f .tally ≡ Some (x .tally))
 
+-- those sizes, or that there are none
 abbrev pub Stated : Found → Option Sizes → Type 0
 Stated f None = (x : Sizes) → Holds f x → ⊥
 Stated f (Some x) = Holds f x
@@ -52,19 +52,21 @@ pub record Says (page : List ℕ) (n : ℕ) (f : Found) : Type 0 where
   pub tally : Noted page n 4 (Number page) (f .tally)
   pub name : Noted page n 5 (Bytes page) (f .name)
 
--- all fields up to the end, or the first that is not in order
+-- the fields up to the end, with the byte of the end and what they say
 pub record Reached (page : List ℕ) (all : Ended) : Type 0 where
   pub count : ℕ
   pub ends : Ends page count
   pub says : Says page count (all .found)
   pub end : all .end ≡ place page count
 
+-- the byte of the first field that is not in order
 pub record Broken (page : List ℕ) (at : ℕ) : Type 0 where
   pub count : ℕ
   pub before : Before page count
   pub illegal : Legal page count → ⊥
   pub place : at ≡ place page count
 
+-- what the reader of all fields answers
 abbrev pub Gathered : List ℕ → Result Ended LabelFault → Type 0
 Gathered page (Ok all) = Reached page all
 Gathered page (Err fault) = Broken page (fault .at)

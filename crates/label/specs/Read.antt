@@ -37,6 +37,10 @@ FieldAt page at (Name p s) = (p ≡ at) × (tagAt page at ≡ 5) × Bytes page a
 FieldAt page at (Skipped p s) = (p ≡ at) × (128 ≤ tagAt page at) × Bytes page at s
 FieldAt page at (End p) = (p ≡ at) × (tagAt page at ≡ 0)
 
+-- the field of a number with this tag at a byte
+abbrev pub NumberAs : ℕ → ℕ → ℕ → Field → Type 0
+NumberAs tag at v field = (page : List ℕ) → tagAt page at ≡ tag → Number page at v → FieldAt page at field
+
 -- what the reader of a field answers at a byte
 abbrev pub ReadAt : List ℕ → ℕ → Result Field LabelFault → Type 0
 ReadAt page at (Ok field) = Sound page at × FieldAt page at field

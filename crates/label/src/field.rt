@@ -1,10 +1,10 @@
 // One field of a label, read from the page where its tag stands.
 ghost use mathlib.Core.Path.{_≡_};
-ghost use Prim.Native.Nat.{ℕ, _+_, _*_, _^_, _<_, _≤_};
-ghost use lib.ListN.{length, getD};
+ghost use Prim.Native.Nat.{_+_, _*_, _^_, _<_, _≤_};
+ghost use lib.ListN.{length};
 ghost use Rattle.chip.specs.Ranges.{Tells};
 ghost use Rattle.label.specs.Fields.{Suits, wordAt};
-ghost use Rattle.label.specs.Read.{FrontOf, HeadAt, ReadAt, endOf};
+ghost use Rattle.label.specs.Read.{FrontOf, HeadAt, NumberAs, ReadAt, endOf};
 use crate::LONGEST_NAME;
 use crate::LabelFault;
 use crate::TAG_END;
@@ -97,6 +97,19 @@ fn number(body: &[u8]) -> u16
     u16::from(body[0]) + 256 * u16::from(body[1])
 }
 
+// The field of a number with one of the four tags of numbers.
+fn numbered<'a>(tag: u8, at: usize, value: u16) -> Field<'a>
+    requires { ⌜ 1 ≤ tag ⌝ ∗ ⌜ tag ≤ 4 ⌝ }
+    ensures { λ r. ⌜ NumberAs tag at value r ⌝ }
+{
+    match tag {
+        TAG_FORMAT => Field::Format { at, value },
+        TAG_RING => Field::Ring { at, value },
+        TAG_SECTORS => Field::Sectors { at, value },
+        _ => Field::Tally { at, value },
+    }
+}
+
 // The field whose tag stands at the byte `at`; whether it repeats an earlier one is not asked here.
 pub fn field_at<'a>(page: &'a [u8], at: usize) -> Result<Field<'a>, LabelFault>
     requires { ⌜ at ≤ length (now page) ⌝ }
@@ -112,22 +125,7 @@ pub fn field_at<'a>(page: &'a [u8], at: usize) -> Result<Field<'a>, LabelFault>
     Ok(
         match head.tag {
             TAG_END => Field::End { at },
-            TAG_FORMAT => Field::Format {
-                at,
-                value: number(bytes),
-            },
-            TAG_RING => Field::Ring {
-                at,
-                value: number(bytes),
-            },
-            TAG_SECTORS => Field::Sectors {
-                at,
-                value: number(bytes),
-            },
-            TAG_TALLY => Field::Tally {
-                at,
-                value: number(bytes),
-            },
+            TAG_FORMAT..=TAG_TALLY => numbered(head.tag, at, number(bytes)),
             TAG_NAME => Field::Name { at, bytes },
             _ => Field::Skipped { at, bytes },
         },

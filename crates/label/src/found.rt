@@ -1,6 +1,4 @@
 // What the fields of a label say, gathered one field at a time.
-ghost use mathlib.Core.Path.{_≡_};
-ghost use Rattle.std.specs.declared.option.Option.the-variants.{Some, None};
 ghost use Rattle.label.specs.Found.{Nothing, Taken, Stated, Kept};
 use crate::FORMAT;
 use crate::LabelFault;

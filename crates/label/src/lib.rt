@@ -1,7 +1,7 @@
 // The label in the first page of a volume: its reader, its writer, and the sizes that it states.
 ghost use mathlib.Core.Path.{_≡_};
-ghost use Prim.Native.Nat.{ℕ, _+_, _<_, _≤_};
-ghost use lib.ListN.{length, take};
+ghost use Prim.Native.Nat.{_+_, _≤_};
+ghost use lib.ListN.{length};
 ghost use Rattle.chip.specs.Ranges.{Tells};
 ghost use Rattle.label.specs.Labels.{Sized, Labelled, FirstStray};
 ghost use Rattle.label.specs.Found.{Gathered};

@@ -1,5 +1,5 @@
 -- One field more in order, and what it says found; or one that repeats another.
-use mathlib.Core.Path.{_≡_, sym, subst}
+use mathlib.Core.Path.{sym, subst}
 use Prim.Native.Nat.{_+_}
 use Rattle.std.proofs.shelf.Results.{err-from-errBy}
 use Rattle.label.proofs.Steps.{Walked, here, again, walk}

@@ -1,15 +1,13 @@
 -- Which fault it is; the fields state no other sizes than those that were found.
-use mathlib.Core.Path.{_≡_, refl, sym, ap, subst, _∙_}
-use mathlib.Core.Logic.{⊎-elim}
+use mathlib.Core.Path.{_≡_, subst}
 use mathlib.Core.List.{List}
-use Prim.Native.Nat.{ℕ, _+_, _≤_, _<_}
+use Prim.Native.Nat.{ℕ}
 use native.Mathlib.Omega.{arith}
 use Rattle.std.proofs.shelf.Results.{err-from-errBy}
-use Rattle.std.specs.declared.option.Option.the-variants.{Some, None}
 use Rattle.label.specs.declared.Sizes.{Sizes}
 use Rattle.label.specs.declared.found.Found.{Found}
-use Rattle.label.specs.Fields.{place, after, Before, Ends}
-use Rattle.label.specs.Labels.{Sized, States, Blank, Stray, Faulty, field, stray, sizes}
+use Rattle.label.specs.Fields.{place, Before}
+use Rattle.label.specs.Labels.{Sized, States, Blank, Stray, field, stray, sizes}
 use Rattle.label.specs.Found.{Says, Holds}
 use Rattle.label.proofs.Notes.{only}
 use Rattle.label.proofs.Steps.{past}

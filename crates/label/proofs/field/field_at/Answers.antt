@@ -1,18 +1,16 @@
 -- A field as its head says it, as it stands in the page.
 use mathlib.Core.Path.{_≡_, refl, sym, ap, subst, _∙_}
 use mathlib.Core.List.{List}
-use Prim.Native.Nat.{ℕ, _+_, _-_, _≤_, _<_}
+use Prim.Native.Nat.{ℕ, _+_, _≤_, _<_}
 use native.Mathlib.Omega.{arith}
 use lib.ListN.{length, getD, take, drop, length-drop}
 use Rattle.std.proofs.shelf.Lists.{getD-drop, getD-take}
 use Rattle.std.specs.declared.option.Option.the-variants.{Some}
 use Rattle.label.specs.declared.field.Head.{Head}
-use Rattle.label.specs.declared.field.Field.{Field}
-use Rattle.label.specs.declared.field.Field.the-variants.{Format, Ring, Sectors, Tally, Name, Skipped, End}
 use Rattle.label.specs.Fields.{wordAt, tagAt, lenAt, bodyAt, after, Suits, Number}
-use Rattle.label.specs.Read.{HeadAt, Sound, FieldAt}
+use Rattle.label.specs.Read.{HeadAt, FieldAt}
 use Rattle.label.proofs.field.field_at.Needs as need
-use Rattle.label.proofs.field.field_at.Needs.{then-not-suits·by·then-not-suits, then-not-suits·by·else-not-suits·then-head, in-0, in-1, in-2, in-3, in-4, in-5, in-rest-tag}
+use Rattle.label.proofs.field.field_at.Needs.{then-not-suits·by·then-not-suits, then-not-suits·by·else-not-suits·then-head, in-0, in-5, in-1-to-4, in-rest-tag}
 
 -- what the head says of tag and length is so in the page
 there : (page : List ℕ) (at : ℕ) (h : Head) → HeadAt page at (Some h) → Suits (h .tag) (h .len) → Suits (tagAt page at) (lenAt page at)
@@ -32,15 +30,15 @@ body : (page : List ℕ) (at : ℕ) (h : Head) → HeadAt page at (Some h) → t
 body page at h is = ap (λ n. take n (h .after .now)) (is .2) ∙ ap (take (lenAt page at)) (is .3)
 
 -- a field with the tag of a number has two bytes, which are the number
-numbered : (page : List ℕ) (at tag v : ℕ) (h : Head) → HeadAt page at (Some h) → Suits (tagAt page at) (lenAt page at) → h .tag ≡ tag → 1 ≤ tag → tag ≤ 4 → v ≡ wordAt (take (h .len) (h .after .now)) 0 → (tagAt page at ≡ tag) × Number page at v
-numbered page at tag v h is s t lo hi e =
-    let tagged : tagAt page at ≡ tag = sym (is .1) ∙ t in
+numbered : (page : List ℕ) (at v : ℕ) (h : Head) → HeadAt page at (Some h) → Suits (tagAt page at) (lenAt page at) → 1 ≤ h .tag → h .tag ≤ 4 → v ≡ wordAt (take (h .len) (h .after .now)) 0 → Number page at v
+numbered page at v h is s lo hi e =
+    let tag = is .1 in
     let two : lenAt page at ≡ 2 = omega arith in
     let i : at + 3 + 0 ≡ at + 3 = omega arith in
     let b = body page at h is in
     let low = ap (λ l. getD l 0 0) b ∙ getD-take (lenAt page at) (drop (at + 3) page) 0 0 (omega arith) ∙ getD-drop (at + 3) page 0 0 ∙ ap (λ k. getD page k 0) i in
     let high = ap (λ l. getD l 1 0) b ∙ getD-take (lenAt page at) (drop (at + 3) page) 1 0 (omega arith) ∙ getD-drop (at + 3) page 1 0 in
-    (tagged, omega (arith, low, high))
+    omega (arith, low, high)
 
 -- a tag that is none of the first six is one that is skipped
 skipped : (tag len : ℕ) → Suits tag len → 5 < tag → 128 ≤ tag
@@ -66,16 +64,17 @@ returns c =
     let head = c .in-Some .head in
     let is = c .in-Some .ensures tt in
     let s = there page at head is (c .if-not-suits .ensures tt) in
-    let number : (tag v : ℕ) → head .tag ≡ tag → 1 ≤ tag → tag ≤ 4 → v ≡ wordAt (take (head .len) (head .after .now)) 0 → (tagAt page at ≡ tag) × Number page at v = λ tag v. numbered page at tag v head is s in
     let room : head .len ≤ length (head .after .now) = c .if-head .left in (
       (omega (arith, behind page at head is, is .2, room), s),
       elim (c .match-head .came) [
         | in-0 w ↦ subst (FieldAt page at) (sym (w .result-is)) (refl, sym (is .1) ∙ w .in-0 .is)
-        | in-1 w ↦ let n = number 1 (w .number .result) (w .in-1 .is) (omega arith) (omega arith) (w .number .ensures) in subst (FieldAt page at) (sym (w .result-is)) (refl, n .0, n .1)
-        | in-2 w ↦ let n = number 2 (w .number-in-2 .result) (w .in-2 .is) (omega arith) (omega arith) (w .number-in-2 .ensures) in subst (FieldAt page at) (sym (w .result-is)) (refl, n .0, n .1)
-        | in-3 w ↦ let n = number 3 (w .number-in-3 .result) (w .in-3 .is) (omega arith) (omega arith) (w .number-in-3 .ensures) in subst (FieldAt page at) (sym (w .result-is)) (refl, n .0, n .1)
-        | in-4 w ↦ let n = number 4 (w .number-in-4 .result) (w .in-4 .is) (omega arith) (omega arith) (w .number-in-4 .ensures) in subst (FieldAt page at) (sym (w .result-is)) (refl, n .0, n .1)
+        | in-1-to-4 w ↦
+            let low : 1 ≤ head .tag = omega arith in
+            let high : head .tag ≤ 4 = omega arith in
+            subst (FieldAt page at) (sym (w .result-is)) (w .numbered .ensures page (sym (is .1)) (numbered page at (w .number .result) head is s low high (w .number .ensures)))
         | in-5 w ↦ subst (FieldAt page at) (sym (w .result-is)) (refl, sym (is .1) ∙ w .in-5 .is, body page at head is)
-        | in-rest-tag w ↦ let high : 5 < head .tag = omega arith in subst (FieldAt page at) (sym (w .result-is)) (refl, skipped _ _ s (subst (λ t. 5 < t) (is .1) high), body page at head is)
+        | in-rest-tag w ↦
+            let high : 5 < head .tag = omega arith in
+            subst (FieldAt page at) (sym (w .result-is)) (refl, skipped _ _ s (subst (λ t. 5 < t) (is .1) high), body page at head is)
       ],
     )
