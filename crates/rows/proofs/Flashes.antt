@@ -23,10 +23,6 @@ place-same : (old new : List ℕ) (b o : ℕ) → (o < 4096 → getD new (b * 40
 place-same old new b o e =
     ⊎-elim (λ h. place-at new b o h ∙ e h ∙ sym (place-at old b o h)) (λ h. rw (le-ltb o 4096 h)) (cases-lt o 4096)
 
--- a range of a chip lies in the row
-pub lies : (row : List ℕ) (b at size len : ℕ) → Within (countOf row) b at size len → b * 4096 + at + len ≤ length row
-lies row b at size len w = omega (arith, w .there, w .ends)
-
 -- a range less than asked for changes no more than the whole
 wider : (old : List ℕ) (base n m : ℕ) (new : List ℕ) → n ≤ m → Outside old base n new → Outside old base m new
 wider old base n m new le o = record {

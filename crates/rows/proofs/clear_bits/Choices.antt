@@ -1,3 +1,4 @@
+-- After k turns the first k bytes of the range are masked.
 use Rattle.rows.specs.Rows.{Masked}
 use Rattle.rows.proofs.clear_bits.Given as given
 

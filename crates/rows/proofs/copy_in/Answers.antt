@@ -1,3 +1,4 @@
+-- A copy into a part of a row is what was written there.
 use mathlib.Core.Path.{refl}
 use Rattle.rows.proofs.Written.{written}
 use Rattle.rows.proofs.copy_in.Needs as need

@@ -1,3 +1,4 @@
+-- A part that is filled is a part with one byte over and over written there.
 use mathlib.Core.Path.{_≡_, ap, _∙_}
 use native.Mathlib.Omega.{arith}
 use Prim.Native.Nat.{ℕ, _+_, _-_, _≤_}

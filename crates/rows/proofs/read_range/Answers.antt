@@ -1,3 +1,4 @@
+-- The bytes that were copied are those of the range.
 use mathlib.Core.Path.{_≡_, ap, _∙_}
 use Prim.Native.Nat.{_+_}
 use native.Mathlib.Omega.{arith}

@@ -1,3 +1,4 @@
+-- An erase that was cut, and one that was finished.
 use mathlib.Core.Path.{_≡_, refl}
 use mathlib.Core.Logic.{inr}
 use Prim.Native.Nat.{_<_}

@@ -1,3 +1,4 @@
+-- A program that was cut, and one that was finished.
 use mathlib.Core.Path.{_≡_, refl}
 use mathlib.Core.Logic.{inr}
 use native.Mathlib.Omega.{arith}

@@ -1,3 +1,4 @@
+-- A page of ones with the bytes in it does what the bytes do.
 use mathlib.Core.Path.{_≡_, ap, subst, _∙_}
 use mathlib.Core.List.{List}
 use Prim.Native.Nat.{ℕ, _+_, _-_, _*_, _%_}

@@ -1,3 +1,4 @@
+-- A program that was cut, and one that was finished.
 use mathlib.Core.Path.{_≡_, refl, ap, _∙_}
 use mathlib.Core.Bool.{true, false}
 use mathlib.Core.Logic.{inr}
