@@ -7,19 +7,29 @@ use std::fmt;
 #[derive(Clone, Copy)]
 pub struct LabelLine<'a>(pub Result<Label<'a>, LabelFault>);
 
+// Bytes in hex, two capital digits for each.
+#[derive(Clone, Copy)]
+pub struct Hex<'a>(pub &'a [u8]);
+
 // A name in hex, or `-` where there is none.
 #[derive(Clone, Copy)]
 struct NameText<'a>(Option<&'a [u8]>);
 
-impl fmt::Display for NameText<'_> as NameTextDisplay {
+pub impl fmt::Display for Hex<'_> as HexDisplay {
     fn fmt<W: fmt::Write>(&self, f: &mut fmt::Formatter<W>) -> fmt::Result {
-        let Some(bytes) = self.0 else {
-            return write!(f, "-");
-        };
-        for b in bytes {
+        for b in self.0 {
             write!(f, "{b:02X}")?;
         }
         Ok(())
+    }
+}
+
+impl fmt::Display for NameText<'_> as NameTextDisplay {
+    fn fmt<W: fmt::Write>(&self, f: &mut fmt::Formatter<W>) -> fmt::Result {
+        match self.0 {
+            Some(bytes) => write!(f, "{}", Hex(bytes)),
+            None => write!(f, "-"),
+        }
     }
 }
 

@@ -1,4 +1,7 @@
 // inspect FILE..: says what each flash dump carries. Of several files each begins with a line that names it.
+mod contents;
+
+use crate::contents::print_image;
 use bench_chip::Bench;
 use bench_chip::BenchChip;
 use bench_chip::Plan;
@@ -18,7 +21,7 @@ fn describe(rt: &LibcRuntime, image: &mut [u8]) -> Result<(), AnyError> {
     println!(rt, "blocks {blocks}")?;
     let page = first_page(&mut chip);
     println!(rt, "{}", LabelLine(read_label(&page, blocks)))?;
-    Ok(())
+    print_image(rt, &mut chip)
 }
 
 // Reads a whole file; the error names it.

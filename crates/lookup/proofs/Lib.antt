@@ -1,0 +1,5 @@
+pub mod Backward
+pub mod Stepping
+pub mod Fronting
+pub mod Words
+pub mod Counting

@@ -1,0 +1,4 @@
+pub mod Walks
+pub mod Fronts
+pub mod Bits
+pub mod Answers

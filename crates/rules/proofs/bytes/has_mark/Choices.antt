@@ -1,0 +1,8 @@
+-- All bytes so far are erased.
+use mathlib.Core.Path.{_≡_}
+use Prim.Native.Nat.{ℕ, _<_}
+use lib.ListN.{getD}
+use Rattle.rules.proofs.bytes.has_mark.Given as given
+
+abbrev pub Inv-loop-k : given.InvT-loop-k
+Inv-loop-k l = (i : ℕ) → i < l .k → getD (l .bytes) i 0 ≡ 255
