@@ -3,7 +3,7 @@ use mathlib.Core.Path.{_≡_, sym, ap, subst, _∙_}
 use mathlib.Core.Bool.{Bool, true, false, not}
 use mathlib.Core.List.{List}
 use mathlib.Core.Logic.{_⊎_, inl, inr, ⊎-elim}
-use Prim.Native.Nat.{ℕ, suc, _+_, _*_, _%_, _<_, _≤_}
+use Prim.Native.Nat.{ℕ, suc, _+_, _-_, _*_, _%_, _<_, _≤_}
 use lib.ListN.{getD}
 use Rattle.std.proofs.shelf.Tests.{both-ways}
 use Rattle.chip.specs.Flash.{Flash}
@@ -11,9 +11,9 @@ use Rattle.chip.specs.Ranges.{Tells}
 use Rattle.label.specs.declared.Sizes.{Sizes}
 use Rattle.ring.specs.declared.directory.Descriptor.{Descriptor}
 use Rattle.ring.specs.Directories.{none}
-use Rattle.ring.specs.Logs.{claimed}
-use Rattle.ring.specs.Places.{chip-block, first-block, descriptor-byte, page-byte}
-use Rattle.ring.specs.Rules.{legal, numbered, unfilled, Illegal, Beyond, Unclean, Misplaced, unfinished}
+use Rattle.ring.specs.Logs.{claimed, ends, is-copy}
+use Rattle.ring.specs.Places.{chip-block, first-block, descriptor-byte, flags-at, page-byte}
+use Rattle.ring.specs.Rules.{legal, numbered, unfilled, Illegal, Beyond, Unclean, Misplaced, unfinished, inside-group}
 use Rattle.rules.specs.Bytes.{Marked}
 use Rattle.rules.specs.Breaches.{Shows}
 use Rattle.rules.proofs.Reading.{byte-of, page-of, flags-of, sector-of}
@@ -71,3 +71,15 @@ unclean-tells s z c i j b r lt behind at t =
 -- a slot that is not filled, before another that is claimed
 pub unfinished-is : (s : Flash) (z : Sizes) (c i : ℕ) (slots : List Descriptor) (j n : ℕ) → Shows s z c i slots → j < 7 → n ≡ claimed s z c → (suc (7 * i + j) < n) × (unfilled (getD slots j none .flags) ≡ true) → Misplaced s z c (7 * i + j)
 unfinished-is s z c i slots j n h lt e u = unfinished (subst (λ m. suc (7 * i + j) < m) e (u .0)) (ap unfilled (flags-of s z c i slots j h lt) ∙ u .1)
+
+-- the other way to be misplaced, where the slot is not unfinished
+pub misplaced-tells : (s : Flash) (z : Sizes) (c i : ℕ) (slots : List Descriptor) (j n : ℕ) (r : Bool) → Shows s z c i slots → j < 7 → n ≡ claimed s z c → ((suc (7 * i + j) < n) × (unfilled (getD slots j none .flags) ≡ true) → ⊥) → Tells r ((0 < 7 * i + j) × (7 * i + j < n) × (is-copy (getD slots j none .flags) ≡ true) × (ends (flags-at s z c (7 * i + j - 1)) ≡ false)) → Tells r (Misplaced s z c (7 * i + j))
+misplaced-tells s z c i slots j n r h lt e filled t =
+    let f = flags-of s z c i slots j h lt in
+    tells-as r
+    (λ x. inside-group (x .0) (subst (λ m. 7 * i + j < m) e (x .1)) (ap is-copy f ∙ x .2) (x .3))
+    (λ m. elim m [
+      | unfinished before u ↦ absurd (filled (subst (λ k. suc (7 * i + j) < k) (sym e) before, ap unfilled (sym f) ∙ u))
+      | inside-group some before copy inside ↦ (some, subst (λ k. 7 * i + j < k) (sym e) before, ap is-copy (sym f) ∙ copy, inside)
+    ])
+    t

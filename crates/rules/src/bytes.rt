@@ -31,7 +31,7 @@ pub fn read_bytes<C: Chip>(chip: &mut C, block: Block, at: usize, into: &mut [u8
 fn has_mark(bytes: &[u8]) -> bool
     ensures { λ r. ⌜ Tells r (Marked (λ k. getD (now (bytes .entry)) k 0) (length (now (bytes .entry)))) ⌝ }
 {
-    for (k, b) in bytes.iter().enumerate() {
+    for b in bytes {
         if *b != ERASED {
             return true;
         }

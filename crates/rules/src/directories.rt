@@ -17,11 +17,16 @@ use chip::PAGE;
 use ring::RingBlock;
 use ring::layout::Layout;
 
+// The bytes of a directory's descriptors, and of one of them.
+const DESCRIPTORS: usize = 28;
+
+const DESCRIPTOR: usize = 4;
+
 // Whether neither flags nor a sector number lie at an offset of a directory.
 fn is_spare(offset: usize) -> bool
     ensures { λ r. ⌜ Tells r (Spare offset) ⌝ }
 {
-    offset >= 28 || offset % 4 == 3
+    offset >= DESCRIPTORS || offset % DESCRIPTOR == 3
 }
 
 // Whether a spare byte of a directory is not erased.

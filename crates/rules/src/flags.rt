@@ -6,12 +6,32 @@ ghost use Rattle.ring.specs.Rules.{legal, numbered, unfilled};
 // The flags of a slot that is not claimed.
 pub const UNCLAIMED: u8 = 0xFF;
 
+// A put: begun, filled, the last of its group; and the last of a group that was dropped, begun or filled.
+const PUT_BEGUN: u8 = 0x7F;
+
+const PUT_FILLED: u8 = 0x5F;
+
+const PUT_CLOSED: u8 = 0x4F;
+
+const DROPPED_BEGUN: u8 = 0x77;
+
+const DROPPED_FILLED: u8 = 0x57;
+
+// A copy: begun, with its sector number, and closed.
+const COPY_BEGUN: u8 = 0xBF;
+
+const COPY_NUMBERED: u8 = 0x9F;
+
+const COPY_CLOSED: u8 = 0x8F;
+
 // Whether a slot may have these flags.
 pub fn is_legal(flags: u8) -> bool
     ensures { λ r. ⌜ r ≡ legal flags ⌝ }
 {
     match flags {
-        0xFF | 0x7F | 0x5F | 0x4F | 0x77 | 0x57 | 0xBF | 0x9F | 0x8F => true,
+        UNCLAIMED | PUT_BEGUN | PUT_FILLED | PUT_CLOSED => true,
+        DROPPED_BEGUN | DROPPED_FILLED => true,
+        COPY_BEGUN | COPY_NUMBERED | COPY_CLOSED => true,
         _ => false,
     }
 }
@@ -21,7 +41,7 @@ pub fn is_numbered(flags: u8) -> bool
     ensures { λ r. ⌜ r ≡ numbered flags ⌝ }
 {
     match flags {
-        0x5F | 0x4F | 0x57 | 0x9F | 0x8F => true,
+        PUT_FILLED | PUT_CLOSED | DROPPED_FILLED | COPY_NUMBERED | COPY_CLOSED => true,
         _ => false,
     }
 }
@@ -31,7 +51,7 @@ pub fn is_unfilled(flags: u8) -> bool
     ensures { λ r. ⌜ r ≡ unfilled flags ⌝ }
 {
     match flags {
-        0x7F | 0xBF | 0x9F => true,
+        PUT_BEGUN | COPY_BEGUN | COPY_NUMBERED => true,
         _ => false,
     }
 }
@@ -41,7 +61,7 @@ pub fn is_copy(flags: u8) -> bool
     ensures { λ r. ⌜ r ≡ is-copy flags ⌝ }
 {
     match flags {
-        0xBF | 0x9F | 0x8F => true,
+        COPY_BEGUN | COPY_NUMBERED | COPY_CLOSED => true,
         _ => false,
     }
 }
@@ -51,7 +71,7 @@ pub fn ends_group(flags: u8) -> bool
     ensures { λ r. ⌜ r ≡ ends flags ⌝ }
 {
     match flags {
-        0x4F | 0x8F | 0x77 | 0x57 => true,
+        PUT_CLOSED | COPY_CLOSED | DROPPED_BEGUN | DROPPED_FILLED => true,
         _ => false,
     }
 }

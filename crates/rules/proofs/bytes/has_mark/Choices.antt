@@ -4,5 +4,5 @@ use Prim.Native.Nat.{ℕ, _<_}
 use lib.ListN.{getD}
 use Rattle.rules.proofs.bytes.has_mark.Given as given
 
-abbrev pub Inv-loop-k : given.InvT-loop-k
-Inv-loop-k l = (i : ℕ) → i < l .k → getD (l .bytes) i 0 ≡ 255
+abbrev pub Inv-loop-b : given.InvT-loop-b
+Inv-loop-b l = (i : ℕ) → i < l .b-index → getD (l .bytes) i 0 ≡ 255
