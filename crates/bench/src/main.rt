@@ -1,3 +1,4 @@
+#![tactic(auto)]
 // Runs a script from standard input on a volume over a bench chip of eight erased blocks.
 use bench_chip::{Bench, Plan};
 use chip::BLOCK;

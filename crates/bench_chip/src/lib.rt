@@ -1,3 +1,4 @@
+#![tactic(auto)]
 // A chip for the bench: its blocks lie in bytes that are lent to it, and it loses power in the step that its plan names.
 ghost use Rattle.std.specs.Prelude.{◌≡◌, true};
 ghost use Rattle.chip.specs.Flash.{awake};

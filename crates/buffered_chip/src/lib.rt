@@ -1,3 +1,4 @@
+#![tactic(auto)]
 // A chip that programs through a page buffer: its blocks lie in bytes that are lent to it, and it loses power in the
 // step that its plan names.
 mod calls;

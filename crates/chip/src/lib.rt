@@ -1,3 +1,4 @@
+#![tactic(auto)]
 // A chip of serial NOR flash: what it means, and what each implementation of it keeps to.
 ghost use Rattle.std.specs.Prelude.{◌≡◌};
 ghost use Rattle.chip.specs.Flash.{Flash, home_at, awake};

@@ -1,3 +1,4 @@
+#![tactic(auto)]
 // What a flash dump carries, as text.
 use label::{Label, LabelFault};
 use std::fmt;

@@ -1,3 +1,4 @@
+#![tactic(auto)]
 // The sector volume over any chip. Tickets are plain numbers here; the volume proper gives them out as values.
 ghost use Rattle.std.specs.Prelude.{◌≡◌, None};
 ghost use Rattle.engine.specs.Formats.{Admits, Formats, Untouched};

@@ -1,3 +1,4 @@
+#![tactic(auto)]
 // What an image is: its examination.
 mod bytes;
 mod copy;

@@ -1,3 +1,4 @@
+#![tactic(auto)]
 // inspect FILE..: says what each flash dump carries. Of several files each begins with a line that names it.
 mod contents;
 

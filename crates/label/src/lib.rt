@@ -1,3 +1,4 @@
+#![tactic(auto)]
 // The label in the first page of a volume: its reader, its writer, and the sizes that it states.
 ghost use Rattle.std.specs.Prelude.{◌≡◌, ◌+◌, ◌≤◌, length};
 ghost use Rattle.chip.specs.Ranges.{Tells};

@@ -1,3 +1,4 @@
+#![tactic(auto)]
 // Images that are too large to store, built in code.
 use chip::BLOCK;
 

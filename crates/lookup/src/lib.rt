@@ -1,3 +1,4 @@
+#![tactic(auto)]
 // Look-ups in a volume's log, which go from its newest slot back and stay right on any image.
 ghost use Rattle.std.specs.Prelude.{◌≡◌, ◌≤◌};
 ghost use Rattle.ring.specs.Logs.{claimed as claimed_of};

@@ -1,3 +1,4 @@
+#![tactic(auto)]
 // Piles of layers: what is built of chips is a chip.
 ghost use Rattle.std.specs.Prelude.{◌≡◌};
 

@@ -1,3 +1,4 @@
+#![tactic(auto)]
 // The numbers of a volume's ring: sectors, slots, and ring blocks are not each other.
 
 // The number of a sector, as a user has it.

@@ -1,3 +1,4 @@
+#![tactic(auto)]
 // A flash whose blocks lie one after another in one row of bytes: where each lies, and what a step does to the row.
 ghost use Rattle.std.specs.Prelude.{◌≡◌, ℕ, ◌+◌, ◌*◌, ◌<◌, ◌≤◌, true, length};
 ghost use Rattle.chip.specs.Flash.{home_at};

@@ -1,3 +1,4 @@
+#![tactic(auto)]
 // The rules that an image of a volume keeps, as far as each is about one block or slot of the log: the first place
 // at which a rule is broken.
 

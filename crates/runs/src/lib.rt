@@ -1,3 +1,4 @@
+#![tactic(auto)]
 // Runs of many calls, and the law that holds of them all.
 mod run;
 

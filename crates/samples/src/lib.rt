@@ -1,3 +1,4 @@
+#![tactic(auto)]
 // Worked examples, as one fact about the definitions that the contracts use.
 ghost use Rattle.samples.specs.Samples.{Samples};
 

@@ -1,3 +1,4 @@
+#![tactic(auto)]
 // The lines of a bench script.
 ghost use Rattle.std.specs.Prelude.{◌≡◌, ℕ, ◌+◌, ◌*◌, ◌<◌, ◌≤◌, List, ◌∷◌, ◌++◌, length, MatchOption, ◌≢◌};
 ghost use Rattle.script.specs.Script.{value, Numeral, One, Two, Lacks, FirstLine, letter, Tail, Says};

@@ -1,3 +1,4 @@
+#![tactic(auto)]
 // A bench session: lines of a script, carried out on a volume over any chip.
 ghost use Rattle.std.specs.Prelude.{◌≡◌, MatchOption};
 ghost use Rattle.session.specs.Sessions.{Planned, reply, Serves};

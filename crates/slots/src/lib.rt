@@ -1,1 +1,2 @@
+#![tactic(auto)]
 // What the programs of a slot leave.

@@ -1,3 +1,4 @@
+#![tactic(auto)]
 // The reader of a volume's tally: how many erases are booked, and whether one more has begun.
 ghost use Rattle.std.specs.Prelude.{◌≡◌, ℕ, ◌+◌, ◌*◌, ◌<◌, ◌≤◌, true, length, IfOk};
 ghost use Rattle.chip.specs.Flash.{Flash};

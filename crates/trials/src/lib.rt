@@ -1,3 +1,4 @@
+#![tactic(auto)]
 // A script of batches for a small volume, and what its sectors hold after each of them.
 
 // The volume: seven sectors on a ring of five blocks, with a label and one tally block before it.

@@ -1,3 +1,4 @@
+#![tactic(auto)]
 // The upkeep of a volume: repairs after a cut, and reclaims.
 mod reclaims;
 mod repairs;

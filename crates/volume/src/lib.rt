@@ -1,3 +1,4 @@
+#![tactic(auto)]
 // The sector volume over any chip.
 ghost use Rattle.std.specs.Prelude.{◌≡◌, MatchResult};
 ghost use Rattle.volume.specs.Formats.{Admits, Formats, Untouched};
