@@ -57,8 +57,8 @@ fn check_put(started: Started, batch: Batch, sector: Sector, len: usize) -> Resu
 
 // Closes or drops the batch that ends at a position.
 fn end_slot<C: Chip>(chip: &mut C, layout: Layout, at: Position, closed: bool) -> Result<(), Fault>
-    requires { Ready (flash chip.old) layout.sizes layout.cleared }
-    ensures { Performs (ending closed layout.sizes layout.cleared at.0) (flash chip.old) result (flash chip.new) }
+    requires { Ready (C.flash chip.old) layout.sizes layout.cleared }
+    ensures { Performs (ending closed layout.sizes layout.cleared at.0) (C.flash chip.old) result (C.flash chip.new) }
 {
     if closed {
         return close_slot(chip, layout, at);
@@ -69,7 +69,7 @@ fn end_slot<C: Chip>(chip: &mut C, layout: Layout, at: Position, closed: bool) -
 impl<C: Chip> Engine<C> {
     // Opens a batch of so many puts, once there is room for them, and tells its ticket.
     pub fn open(&mut self, puts: u16) -> Result<u32, Refusal>
-        ensures { Opens puts (flash self.old.chip) self.old.memory result (flash self.new.chip) self.new.memory }
+        ensures { Opens puts (C.flash self.old.chip) self.old.memory result (C.flash self.new.chip) self.new.memory }
     {
         let started = self.serving()?;
         check_open(started, puts, self.memory.tickets)?;
@@ -100,7 +100,7 @@ impl<C: Chip> Engine<C> {
 
     // Puts a page for a sector, under the ticket of the open batch.
     pub fn put(&mut self, ticket: u32, sector: Sector, page: &[u8]) -> Result<(), Refusal>
-        ensures { Puts ticket sector.0 page.now (flash self.old.chip) self.old.memory result (flash self.new.chip) self.new.memory }
+        ensures { Puts ticket sector.0 page.now (C.flash self.old.chip) self.old.memory result (C.flash self.new.chip) self.new.memory }
     {
         let started = self.serving()?;
         let batch = batch_of(started, ticket)?;
@@ -130,7 +130,7 @@ impl<C: Chip> Engine<C> {
 
     // Ends the open batch, at its last slot; a batch without puts has none.
     fn end_batch(&mut self, ticket: u32, closed: bool) -> Result<(), Refusal>
-        ensures { Ends (ending closed) ticket (flash self.old.chip) self.old.memory result (flash self.new.chip) self.new.memory }
+        ensures { Ends (ending closed) ticket (C.flash self.old.chip) self.old.memory result (C.flash self.new.chip) self.new.memory }
     {
         let started = self.serving()?;
         let batch = batch_of(started, ticket)?;
@@ -146,14 +146,14 @@ impl<C: Chip> Engine<C> {
 
     // Closes the open batch: all its puts count from now on.
     pub fn close(&mut self, ticket: u32) -> Result<(), Refusal>
-        ensures { Ends closing ticket (flash self.old.chip) self.old.memory result (flash self.new.chip) self.new.memory }
+        ensures { Ends closing ticket (C.flash self.old.chip) self.old.memory result (C.flash self.new.chip) self.new.memory }
     {
         self.end_batch(ticket, true)
     }
 
     // Drops the open batch: none of its puts counts.
     pub fn abandon(&mut self, ticket: u32) -> Result<(), Refusal>
-        ensures { Ends dropping ticket (flash self.old.chip) self.old.memory result (flash self.new.chip) self.new.memory }
+        ensures { Ends dropping ticket (C.flash self.old.chip) self.old.memory result (C.flash self.new.chip) self.new.memory }
     {
         self.end_batch(ticket, false)
     }

@@ -11,8 +11,8 @@ use ring::Sector;
 impl<C: Chip> Engine<C> {
     // Fills a page with what a sector holds, and says whether it is written; a page of FF hex stands for one that is not.
     pub fn read(&mut self, sector: Sector, into: &mut [u8]) -> Result<bool, Refusal>
-        ensures reads { Reads sector.0 (flash self.old.chip) self.old.memory into.old result into.new }
-        ensures keeps { (flash self.new.chip ≡ flash self.old.chip) × (self.new.memory ≡ self.old.memory) }
+        ensures reads { Reads sector.0 (C.flash self.old.chip) self.old.memory into.old result into.new }
+        ensures keeps { (C.flash self.new.chip ≡ C.flash self.old.chip) × (self.new.memory ≡ self.old.memory) }
     {
         let started = self.serving()?;
         if into.len() != PAGE {
@@ -26,8 +26,8 @@ impl<C: Chip> Engine<C> {
 
     // Booked erases, unclaimed slots, written sectors, and unbooked erases that are left.
     pub fn report(&mut self) -> Result<(u32, u16, u16, u32), Refusal>
-        ensures reports { Reports (flash self.old.chip) self.old.memory result }
-        ensures keeps { (flash self.new.chip ≡ flash self.old.chip) × (self.new.memory ≡ self.old.memory) }
+        ensures reports { Reports (C.flash self.old.chip) self.old.memory result }
+        ensures keeps { (C.flash self.new.chip ≡ C.flash self.old.chip) × (self.new.memory ≡ self.old.memory) }
     {
         let started = self.serving()?;
         let survey = survey_image(&mut self.chip, started.log);

@@ -11,7 +11,7 @@ use image::Log;
 
 // Whether a log fits the chip that it should be on. It asks for nothing that a chip would have to read.
 fn fits<C: Chip>(chip: &C, log: Log) -> bool
-    ensures { Tells result (Fits (flash chip.now) log) }
+    ensures { Tells result (Fits (C.flash chip.now) log) }
 {
     let sizes = log.layout.sizes;
     chip.power()
@@ -37,7 +37,7 @@ pub fn batch_of(started: Started, ticket: u32) -> Result<Batch, Refusal>
 impl<C: Chip> Engine<C> {
     // What is known of the log and the batch, if the volume serves calls.
     pub(crate) fn serving(&self) -> Result<Started, Refusal>
-        ensures { Served (flash self.now.chip) self.now.memory result }
+        ensures { Served (C.flash self.now.chip) self.now.memory result }
     {
         let Some(started) = self.memory.started else {
             return Err(Refusal::NotStarted);

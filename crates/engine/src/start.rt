@@ -11,7 +11,7 @@ use upkeep::repair;
 impl<C: Chip> Engine<C> {
     // Switches power on, examines the image, and repairs what a cut has left. Any batch is gone.
     pub fn start(&mut self) -> Result<(), Refusal>
-        ensures { Starts (flash self.old.chip) self.old.memory result (flash self.new.chip) self.new.memory }
+        ensures { Starts (C.flash self.old.chip) self.old.memory result (C.flash self.new.chip) self.new.memory }
     {
         self.memory.started = None;
         self.chip.power_on();

@@ -7,7 +7,7 @@ use chip::{Block, Chip, Fault, Span};
 
 // Erases all blocks, from the first on.
 fn erase_all<C: Chip>(chip: &mut C) -> Result<(), Fault>
-    ensures { Tries (erasing (flash chip.old).blocks) (flash chip.old) result (flash chip.new) }
+    ensures { Tries (erasing (C.flash chip.old).blocks) (C.flash chip.old) result (C.flash chip.new) }
 {
     for b in 0..chip.blocks() {
         chip.erase(Block(b))?;
@@ -17,7 +17,7 @@ fn erase_all<C: Chip>(chip: &mut C) -> Result<(), Fault>
 
 // Erases all blocks, then writes the label at the front of the first.
 pub fn write<C: Chip>(chip: &mut C, label: &[u8]) -> Result<(), Fault>
-    ensures tries { Tries (formatting (flash chip.old).blocks label.now) (flash chip.old) result (flash chip.new) }
+    ensures tries { Tries (formatting (C.flash chip.old).blocks label.now) (C.flash chip.old) result (C.flash chip.new) }
     ensures bytes { (i : ℕ) → slice_index label.now i < 256 }
 {
     erase_all(chip)?;

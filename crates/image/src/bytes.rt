@@ -7,9 +7,9 @@ use chip::{Block, Chip, PAGE, Span};
 
 // Fills a buffer with the bytes of a block from `at` on.
 pub fn fetch<C: Chip>(chip: &mut C, block: Block, at: usize, into: &mut [u8])
-    requires { ((flash chip.old).on ≡ true) × ((block.0 < (flash chip.old).blocks) × ((at + length into.old ≤ 4096) × (0 < length into.old))) }
-    ensures bytes { (k : ℕ) → k < length into.old → slice_index into.new k ≡ (flash chip.old).byte block.0 (at + k) }
-    ensures keeps { flash chip.new ≡ flash chip.old }
+    requires { ((C.flash chip.old).on ≡ true) × ((block.0 < (C.flash chip.old).blocks) × ((at + length into.old ≤ 4096) × (0 < length into.old))) }
+    ensures bytes { (k : ℕ) → k < length into.old → slice_index into.new k ≡ (C.flash chip.old).byte block.0 (at + k) }
+    ensures keeps { C.flash chip.new ≡ C.flash chip.old }
 {
     let len = into.len();
     let _ = chip.read(Span { block, at, len }, into);
@@ -33,9 +33,9 @@ const CHUNK: usize = 64;
 
 // The same of `CHUNK` bytes of two blocks.
 fn chunk_is_over<C: Chip>(chip: &mut C, upper: Block, lower: Block, up: usize, low: usize) -> bool
-    requires { ((flash chip.old).on ≡ true) × ((upper.0 < (flash chip.old).blocks) × ((lower.0 < (flash chip.old).blocks) × ((up + 64 ≤ 4096) × (low + 64 ≤ 4096)))) }
-    ensures tells { Tells result (Over (λ k. (flash chip.old).byte upper.0 (up + k)) (λ k. (flash chip.old).byte lower.0 (low + k)) 64) }
-    ensures keeps { flash chip.new ≡ flash chip.old }
+    requires { ((C.flash chip.old).on ≡ true) × ((upper.0 < (C.flash chip.old).blocks) × ((lower.0 < (C.flash chip.old).blocks) × ((up + 64 ≤ 4096) × (low + 64 ≤ 4096)))) }
+    ensures tells { Tells result (Over (λ k. (C.flash chip.old).byte upper.0 (up + k)) (λ k. (C.flash chip.old).byte lower.0 (low + k)) 64) }
+    ensures keeps { C.flash chip.new ≡ C.flash chip.old }
 {
     let mut above = [0; CHUNK];
     let mut below = [0; CHUNK];
@@ -52,9 +52,9 @@ pub fn page_is_over<C: Chip>(
     up: usize,
     low: usize,
 ) -> bool
-    requires { ((flash chip.old).on ≡ true) × ((upper.0 < (flash chip.old).blocks) × ((lower.0 < (flash chip.old).blocks) × ((up + 512 ≤ 4096) × (low + 512 ≤ 4096)))) }
-    ensures tells { Tells result (Over (λ k. (flash chip.old).byte upper.0 (up + k)) (λ k. (flash chip.old).byte lower.0 (low + k)) 512) }
-    ensures keeps { flash chip.new ≡ flash chip.old }
+    requires { ((C.flash chip.old).on ≡ true) × ((upper.0 < (C.flash chip.old).blocks) × ((lower.0 < (C.flash chip.old).blocks) × ((up + 512 ≤ 4096) × (low + 512 ≤ 4096)))) }
+    ensures tells { Tells result (Over (λ k. (C.flash chip.old).byte upper.0 (up + k)) (λ k. (C.flash chip.old).byte lower.0 (low + k)) 512) }
+    ensures keeps { C.flash chip.new ≡ C.flash chip.old }
 {
     for i in 0..PAGE / CHUNK {
         if !chunk_is_over(chip, upper, lower, up + i * CHUNK, low + i * CHUNK) {
@@ -72,9 +72,9 @@ pub fn pair_is_over<C: Chip>(
     up: usize,
     low: usize,
 ) -> bool
-    requires { ((flash chip.old).on ≡ true) × ((upper.0 < (flash chip.old).blocks) × ((lower.0 < (flash chip.old).blocks) × ((up + 2 ≤ 4096) × (low + 2 ≤ 4096)))) }
-    ensures tells { Tells result (Over (λ k. (flash chip.old).byte upper.0 (up + k)) (λ k. (flash chip.old).byte lower.0 (low + k)) 2) }
-    ensures keeps { flash chip.new ≡ flash chip.old }
+    requires { ((C.flash chip.old).on ≡ true) × ((upper.0 < (C.flash chip.old).blocks) × ((lower.0 < (C.flash chip.old).blocks) × ((up + 2 ≤ 4096) × (low + 2 ≤ 4096)))) }
+    ensures tells { Tells result (Over (λ k. (C.flash chip.old).byte upper.0 (up + k)) (λ k. (C.flash chip.old).byte lower.0 (low + k)) 2) }
+    ensures keeps { C.flash chip.new ≡ C.flash chip.old }
 {
     let mut above = [0; 2];
     let mut below = [0; 2];

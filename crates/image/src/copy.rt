@@ -19,9 +19,9 @@ fn block_of(layout: Layout, position: u16) -> Block
 
 // Whether one position shows a 1 in its number and page wherever another does.
 pub fn covers<C: Chip>(chip: &mut C, layout: Layout, upper: u16, lower: u16) -> bool
-    requires { (Ready (flash chip.old) layout.sizes layout.cleared) × ((upper < positions layout.sizes layout.cleared) × (lower < positions layout.sizes layout.cleared)) }
-    ensures tells { Tells result (Covers (flash chip.old) layout.sizes layout.cleared upper lower) }
-    ensures keeps { flash chip.new ≡ flash chip.old }
+    requires { (Ready (C.flash chip.old) layout.sizes layout.cleared) × ((upper < positions layout.sizes layout.cleared) × (lower < positions layout.sizes layout.cleared)) }
+    ensures tells { Tells result (Covers (C.flash chip.old) layout.sizes layout.cleared upper lower) }
+    ensures keeps { C.flash chip.new ≡ C.flash chip.old }
 {
     let above = block_of(layout, upper);
     let below = block_of(layout, lower);

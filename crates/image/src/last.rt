@@ -19,18 +19,18 @@ use ring::layout::Layout;
 
 // Whether an unclosed copy is right: it stands behind the first block, and covers the first live slot there.
 fn is_right_copy<C: Chip>(chip: &mut C, layout: Layout, position: u16, source: u16) -> bool
-    requires { (Ready (flash chip.old) layout.sizes layout.cleared) × ((position < positions layout.sizes layout.cleared) × (source ≡ first_live (flash chip.old) layout.sizes layout.cleared)) }
-    ensures tells { Tells result (Copying (flash chip.old) layout.sizes layout.cleared position) }
-    ensures keeps { flash chip.new ≡ flash chip.old }
+    requires { (Ready (C.flash chip.old) layout.sizes layout.cleared) × ((position < positions layout.sizes layout.cleared) × (source ≡ first_live (C.flash chip.old) layout.sizes layout.cleared)) }
+    ensures tells { Tells result (Copying (C.flash chip.old) layout.sizes layout.cleared position) }
+    ensures keeps { C.flash chip.new ≡ C.flash chip.old }
 {
     position >= 7 && source < 7 && covers(chip, layout, position, source)
 }
 
 // The flags of a position.
 fn flags_of<C: Chip>(chip: &mut C, layout: Layout, position: u16) -> u8
-    requires { (Ready (flash chip.old) layout.sizes layout.cleared) × (position < positions layout.sizes layout.cleared) }
-    ensures flags { result ≡ flags_at (flash chip.old) layout.sizes layout.cleared position }
-    ensures keeps { flash chip.new ≡ flash chip.old }
+    requires { (Ready (C.flash chip.old) layout.sizes layout.cleared) × (position < positions layout.sizes layout.cleared) }
+    ensures flags { result ≡ flags_at (C.flash chip.old) layout.sizes layout.cleared position }
+    ensures keeps { C.flash chip.new ≡ C.flash chip.old }
 {
     let block = layout.chip_block(layout.block_at_turn(position / 7));
     let slots = read_descriptors(chip, block);
@@ -61,12 +61,12 @@ pub fn check_last<C: Chip>(
     claimed: u16,
     front: [bool; 7],
 ) -> Result<(), Broken>
-    requires ready { Ready (flash chip.old) layout.sizes layout.cleared }
-    requires claimed { claimed ≡ claimed_of (flash chip.old) layout.sizes layout.cleared }
+    requires ready { Ready (C.flash chip.old) layout.sizes layout.cleared }
+    requires claimed { claimed ≡ claimed_of (C.flash chip.old) layout.sizes layout.cleared }
     requires inside { claimed ≤ positions layout.sizes layout.cleared }
-    requires front { LiveFront (flash chip.old) layout.sizes layout.cleared front }
-    ensures checked { Checked (flash chip.old) layout.sizes layout.cleared 7 9 result }
-    ensures keeps { flash chip.new ≡ flash chip.old }
+    requires front { LiveFront (C.flash chip.old) layout.sizes layout.cleared front }
+    ensures checked { Checked (C.flash chip.old) layout.sizes layout.cleared 7 9 result }
+    ensures keeps { C.flash chip.new ≡ C.flash chip.old }
 {
     if claimed == 0 {
         return Ok(());

@@ -12,9 +12,9 @@ use rules::{beyond_slot, illegal_slot, misplaced_slot, scribbled_block, unclean_
 
 // Checks rules 2 and 3, which are about each directory and each slot by itself.
 pub fn check_bytes<C: Chip>(chip: &mut C, layout: Layout) -> Result<(), Broken>
-    requires { Ready (flash chip.old) layout.sizes layout.cleared }
-    ensures checked { Checked (flash chip.old) layout.sizes layout.cleared 2 3 result }
-    ensures keeps { flash chip.new ≡ flash chip.old }
+    requires { Ready (C.flash chip.old) layout.sizes layout.cleared }
+    ensures checked { Checked (C.flash chip.old) layout.sizes layout.cleared 2 3 result }
+    ensures keeps { C.flash chip.new ≡ C.flash chip.old }
 {
     if let Some(block) = scribbled_block(chip, layout) {
         return Err(Broken {
@@ -33,10 +33,10 @@ pub fn check_bytes<C: Chip>(chip: &mut C, layout: Layout) -> Result<(), Broken>
 
 // Checks rules 4 to 6, which are about slots in the order of the log.
 pub fn check_slots<C: Chip>(chip: &mut C, layout: Layout, claimed: u16) -> Result<(), Broken>
-    requires ready { Ready (flash chip.old) layout.sizes layout.cleared }
-    requires claimed { claimed ≡ claimed_of (flash chip.old) layout.sizes layout.cleared }
-    ensures checked { Checked (flash chip.old) layout.sizes layout.cleared 4 6 result }
-    ensures keeps { flash chip.new ≡ flash chip.old }
+    requires ready { Ready (C.flash chip.old) layout.sizes layout.cleared }
+    requires claimed { claimed ≡ claimed_of (C.flash chip.old) layout.sizes layout.cleared }
+    ensures checked { Checked (C.flash chip.old) layout.sizes layout.cleared 4 6 result }
+    ensures keeps { C.flash chip.new ≡ C.flash chip.old }
 {
     if let Some(slot) = unclean_slot(chip, layout, claimed) {
         return Err(Broken {

@@ -25,9 +25,9 @@ pub struct Survey {
 
 // Surveys a sound image.
 pub fn survey_image<C: Chip>(chip: &mut C, log: Log) -> Survey
-    requires { Standing (flash chip.old) log }
-    ensures survey { Surveyed (flash chip.old) log result }
-    ensures keeps { flash chip.new ≡ flash chip.old }
+    requires { Standing (C.flash chip.old) log }
+    ensures survey { Surveyed (C.flash chip.old) log result }
+    ensures keeps { C.flash chip.new ≡ C.flash chip.old }
 {
     let layout = log.layout;
     let booked = layout.cleared / 2;
@@ -42,9 +42,9 @@ pub fn survey_image<C: Chip>(chip: &mut C, log: Log) -> Survey
 
 // The slot in which a sector lives, if it is written.
 pub fn find_sector<C: Chip>(chip: &mut C, log: Log, sector: Sector) -> Option<Slot>
-    requires { Standing (flash chip.old) log }
-    ensures found { Found (flash chip.old) log.layout.sizes log.layout.cleared sector.0 result }
-    ensures keeps { flash chip.new ≡ flash chip.old }
+    requires { Standing (C.flash chip.old) log }
+    ensures found { Found (C.flash chip.old) log.layout.sizes log.layout.cleared sector.0 result }
+    ensures keeps { C.flash chip.new ≡ C.flash chip.old }
 {
     live_slot(chip, log.layout, log.claimed, sector)
 }
@@ -52,9 +52,9 @@ pub fn find_sector<C: Chip>(chip: &mut C, log: Log, sector: Sector) -> Option<Sl
 // Fills a buffer with the front of a slot's page; nothing is read where there is no such slot, or the buffer is empty
 // or larger than a page.
 pub fn read_slot<C: Chip>(chip: &mut C, log: Log, slot: Slot, into: &mut [u8])
-    requires { Standing (flash chip.old) log }
-    ensures bytes { slot.0 < 7 * log.layout.sizes.ring → 0 < length into.old → length into.old ≤ 512 → (k : ℕ) → k < length into.old → slice_index into.new k ≡ (flash chip.old).byte (chip_block log.layout.sizes (slot.0 / 7)) (512 * (slot.0 % 7 + 1) + k) }
-    ensures keeps { flash chip.new ≡ flash chip.old }
+    requires { Standing (C.flash chip.old) log }
+    ensures bytes { slot.0 < 7 * log.layout.sizes.ring → 0 < length into.old → length into.old ≤ 512 → (k : ℕ) → k < length into.old → slice_index into.new k ≡ (C.flash chip.old).byte (chip_block log.layout.sizes (slot.0 / 7)) (512 * (slot.0 % 7 + 1) + k) }
+    ensures keeps { C.flash chip.new ≡ C.flash chip.old }
 {
     if slot.0 / 7 >= log.layout.sizes.ring || into.is_empty() || into.len() > PAGE {
         return;

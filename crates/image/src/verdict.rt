@@ -26,9 +26,9 @@ pub struct Log {
 
 // The layout that label and tally give, where the tally keeps its rule.
 fn read_layout<C: Chip>(chip: &mut C, sizes: Sizes) -> Result<Layout, Broken>
-    requires { ((flash chip.old).on ≡ true) × (Sized (flash chip.old).blocks sizes) }
-    ensures laid { Laid (flash chip.old) sizes result }
-    ensures keeps { flash chip.new ≡ flash chip.old }
+    requires { ((C.flash chip.old).on ≡ true) × (Sized (C.flash chip.old).blocks sizes) }
+    ensures laid { Laid (C.flash chip.old) sizes result }
+    ensures keeps { C.flash chip.new ≡ C.flash chip.old }
 {
     match read_tally(chip, sizes.tally) {
         Ok((booked, begun)) => Ok(Layout {
@@ -44,10 +44,10 @@ fn read_layout<C: Chip>(chip: &mut C, sizes: Sizes) -> Result<Layout, Broken>
 
 // Checks rules 2 to 9, and counts the claimed slots.
 fn check_log<C: Chip>(chip: &mut C, layout: Layout) -> Result<u16, Broken>
-    requires { Ready (flash chip.old) layout.sizes layout.cleared }
-    ensures checked { Checked (flash chip.old) layout.sizes layout.cleared 2 9 result }
-    ensures counted { Counted (flash chip.old) layout.sizes layout.cleared result }
-    ensures keeps { flash chip.new ≡ flash chip.old }
+    requires { Ready (C.flash chip.old) layout.sizes layout.cleared }
+    ensures checked { Checked (C.flash chip.old) layout.sizes layout.cleared 2 9 result }
+    ensures counted { Counted (C.flash chip.old) layout.sizes layout.cleared result }
+    ensures keeps { C.flash chip.new ≡ C.flash chip.old }
 {
     check_bytes(chip, layout)?;
     let claimed = claimed_slots(chip, layout);
@@ -59,9 +59,9 @@ fn check_log<C: Chip>(chip: &mut C, layout: Layout) -> Result<u16, Broken>
 
 // Examines the image on a chip. It writes nothing.
 pub fn examine<C: Chip>(chip: &mut C) -> Result<Log, Flaw>
-    ensures examined { Examined (flash chip.old) result }
-    ensures stands { IfOk result (Standing (flash chip.old)) }
-    ensures keeps { flash chip.new ≡ flash chip.old }
+    ensures examined { Examined (C.flash chip.old) result }
+    ensures stands { IfOk result (Standing (C.flash chip.old)) }
+    ensures keeps { C.flash chip.new ≡ C.flash chip.old }
 {
     if !chip.power() {
         return Err(Flaw::NoPower);

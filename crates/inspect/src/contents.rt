@@ -9,7 +9,7 @@ use ring::Sector;
 
 // Prints a line for each written sector, with its slot and the first bytes of its page.
 fn print_sectors<C: Chip>(rt: &HostRuntime, chip: &mut C, log: Log) -> anyhow::Result<()>
-    requires { Standing (flash chip.old) log }
+    requires { Standing (C.flash chip.old) log }
 {
     for x in 0..log.layout.sizes.sectors {
         if let Some(slot) = find_sector(chip, log, Sector(x)) {
@@ -23,7 +23,7 @@ fn print_sectors<C: Chip>(rt: &HostRuntime, chip: &mut C, log: Log) -> anyhow::R
 
 // Prints the numbers of a sound image, and its sectors.
 fn print_log<C: Chip>(rt: &HostRuntime, chip: &mut C, log: Log) -> anyhow::Result<()>
-    requires { Standing (flash chip.old) log }
+    requires { Standing (C.flash chip.old) log }
 {
     let found = survey_image(chip, log);
     println!(rt; "image ok")?;

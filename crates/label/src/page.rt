@@ -6,8 +6,8 @@ use chip::{Block, Chip, PAGE, Span};
 
 // The first page of a chip; a page of ones where there is no block, or no power.
 pub fn first_page<C: Chip>(chip: &mut C) -> [u8; 512]
-    ensures page { Fronts (flash chip.old) result }
-    ensures keeps { flash chip.new ≡ flash chip.old }
+    ensures page { Fronts (C.flash chip.old) result }
+    ensures keeps { C.flash chip.new ≡ C.flash chip.old }
 {
     let mut page = [0xFF; PAGE];
     let front = Span {

@@ -21,7 +21,7 @@ impl<C: Chip> Window<C> {
 
     // Which block of the chip a block of the window is.
     fn inner(&self, block: Block) -> Option<Block>
-        ensures { Lies self.now.first.0 self.now.count (flash self.now.chip) block.0 result }
+        ensures { Lies self.now.first.0 self.now.count (C.flash self.now.chip) block.0 result }
     {
         let shown = self.chip.blocks().saturating_sub(self.first.0);
         if block.0 < self.count && block.0 < shown {

@@ -25,9 +25,9 @@ pub fn live_slot<C: Chip>(
     claimed: u16,
     sector: Sector,
 ) -> Option<Slot>
-    requires { (Ready (flash chip.old) layout.sizes layout.cleared) × (claimed ≡ claimed_of (flash chip.old) layout.sizes layout.cleared) }
-    ensures found { Found (flash chip.old) layout.sizes layout.cleared sector.0 result }
-    ensures keeps { flash chip.new ≡ flash chip.old }
+    requires { (Ready (C.flash chip.old) layout.sizes layout.cleared) × (claimed ≡ claimed_of (C.flash chip.old) layout.sizes layout.cleared) }
+    ensures found { Found (C.flash chip.old) layout.sizes layout.cleared sector.0 result }
+    ensures keeps { C.flash chip.new ≡ C.flash chip.old }
 {
     let mut walk = Walk::from_newest(claimed);
     while let Some(visit) = walk.back(chip, layout) {
@@ -40,9 +40,9 @@ pub fn live_slot<C: Chip>(
 
 // Which of the first seven positions are live: the last slot that counts for the sector of such a one is itself.
 pub fn live_front<C: Chip>(chip: &mut C, layout: Layout, claimed: u16) -> [bool; 7]
-    requires { (Ready (flash chip.old) layout.sizes layout.cleared) × (claimed ≡ claimed_of (flash chip.old) layout.sizes layout.cleared) }
-    ensures live { LiveFront (flash chip.old) layout.sizes layout.cleared result }
-    ensures keeps { flash chip.new ≡ flash chip.old }
+    requires { (Ready (C.flash chip.old) layout.sizes layout.cleared) × (claimed ≡ claimed_of (C.flash chip.old) layout.sizes layout.cleared) }
+    ensures live { LiveFront (C.flash chip.old) layout.sizes layout.cleared result }
+    ensures keeps { C.flash chip.new ≡ C.flash chip.old }
 {
     let mut front = Front::before(directory_of(chip, layout, 0));
     let mut walk = Walk::from_newest(claimed);
@@ -54,9 +54,9 @@ pub fn live_front<C: Chip>(chip: &mut C, layout: Layout, claimed: u16) -> [bool;
 
 // How many sectors are written.
 pub fn written_sectors<C: Chip>(chip: &mut C, layout: Layout, claimed: u16) -> u16
-    requires { (Ready (flash chip.old) layout.sizes layout.cleared) × ((claimed ≡ claimed_of (flash chip.old) layout.sizes layout.cleared) × (layout.sizes.sectors ≤ 28644)) }
-    ensures count { result ≡ written_in (flash chip.old) layout.sizes layout.cleared }
-    ensures keeps { flash chip.new ≡ flash chip.old }
+    requires { (Ready (C.flash chip.old) layout.sizes layout.cleared) × ((claimed ≡ claimed_of (C.flash chip.old) layout.sizes layout.cleared) × (layout.sizes.sectors ≤ 28644)) }
+    ensures count { result ≡ written_in (C.flash chip.old) layout.sizes layout.cleared }
+    ensures keeps { C.flash chip.new ≡ C.flash chip.old }
 {
     let mut written = Marks::none();
     let mut walk = Walk::from_newest(claimed);

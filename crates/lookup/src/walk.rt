@@ -56,9 +56,9 @@ pub fn slot_at(layout: Layout, position: u16) -> Slot
 
 // The descriptors of the block that holds a position.
 pub fn directory_of<C: Chip>(chip: &mut C, layout: Layout, position: u16) -> [Descriptor; 7]
-    requires { (Ready (flash chip.old) layout.sizes layout.cleared) × (position < positions layout.sizes layout.cleared) }
-    ensures describes { Describes (flash chip.old) (chip_block layout.sizes (block_at layout.sizes layout.cleared position)) result }
-    ensures keeps { flash chip.new ≡ flash chip.old }
+    requires { (Ready (C.flash chip.old) layout.sizes layout.cleared) × (position < positions layout.sizes layout.cleared) }
+    ensures describes { Describes (C.flash chip.old) (chip_block layout.sizes (block_at layout.sizes layout.cleared position)) result }
+    ensures keeps { C.flash chip.new ≡ C.flash chip.old }
 {
     let block = layout.block_at_turn(position / SLOTS);
     read_descriptors(chip, layout.chip_block(block))
@@ -84,9 +84,9 @@ impl Walk {
 
     // The directory of the block that holds the next slot back: the one at hand, unless the walk comes to a new block.
     fn next_directory<C: Chip>(&self, chip: &mut C, layout: Layout) -> [Descriptor; 7]
-        requires { (Ready (flash chip.old) layout.sizes layout.cleared) × ((Walking (flash chip.old) layout.sizes layout.cleared self.now) × (0 < self.now.position)) }
-        ensures describes { Describes (flash chip.old) (chip_block layout.sizes (block_at layout.sizes layout.cleared (self.now.position - 1))) result }
-        ensures keeps { flash chip.new ≡ flash chip.old }
+        requires { (Ready (C.flash chip.old) layout.sizes layout.cleared) × ((Walking (C.flash chip.old) layout.sizes layout.cleared self.now) × (0 < self.now.position)) }
+        ensures describes { Describes (C.flash chip.old) (chip_block layout.sizes (block_at layout.sizes layout.cleared (self.now.position - 1))) result }
+        ensures keeps { C.flash chip.new ≡ C.flash chip.old }
     {
         if self.position == self.claimed || self.position % SLOTS == 0 {
             directory_of(chip, layout, self.position - 1)
@@ -97,9 +97,9 @@ impl Walk {
 
     // Goes one slot further back, until none is left.
     pub fn back<C: Chip>(&mut self, chip: &mut C, layout: Layout) -> Option<Visit>
-        requires { (Ready (flash chip.old) layout.sizes layout.cleared) × (Walking (flash chip.old) layout.sizes layout.cleared self.old) }
-        ensures steps { Stepped (flash chip.old) layout.sizes layout.cleared self.old result self.new }
-        ensures keeps { flash chip.new ≡ flash chip.old }
+        requires { (Ready (C.flash chip.old) layout.sizes layout.cleared) × (Walking (C.flash chip.old) layout.sizes layout.cleared self.old) }
+        ensures steps { Stepped (C.flash chip.old) layout.sizes layout.cleared self.old result self.new }
+        ensures keeps { C.flash chip.new ≡ C.flash chip.old }
     {
         if self.position == 0 {
             return None;

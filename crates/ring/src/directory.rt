@@ -46,9 +46,9 @@ fn describe_all(bytes: [u8; 28]) -> [Descriptor; 7]
 
 // The front of a block's directory.
 fn read_front<C: Chip>(chip: &mut C, block: Block) -> [u8; 28]
-    requires { ((flash chip.old).on ≡ true) × (block.0 < (flash chip.old).blocks) }
-    ensures bytes { (k : ℕ) → k < 28 → slice_index result k ≡ (flash chip.old).byte block.0 k }
-    ensures keeps { flash chip.new ≡ flash chip.old }
+    requires { ((C.flash chip.old).on ≡ true) × (block.0 < (C.flash chip.old).blocks) }
+    ensures bytes { (k : ℕ) → k < 28 → slice_index result k ≡ (C.flash chip.old).byte block.0 k }
+    ensures keeps { C.flash chip.new ≡ C.flash chip.old }
 {
     let mut bytes = [0xFF; DESCRIPTORS];
     let front = Span {
@@ -62,9 +62,9 @@ fn read_front<C: Chip>(chip: &mut C, block: Block) -> [u8; 28]
 
 // The seven descriptors of a block, in one read.
 pub fn read_descriptors<C: Chip>(chip: &mut C, block: Block) -> [Descriptor; 7]
-    requires { ((flash chip.old).on ≡ true) × (block.0 < (flash chip.old).blocks) }
-    ensures describes { Describes (flash chip.old) block.0 result }
-    ensures keeps { flash chip.new ≡ flash chip.old }
+    requires { ((C.flash chip.old).on ≡ true) × (block.0 < (C.flash chip.old).blocks) }
+    ensures describes { Describes (C.flash chip.old) block.0 result }
+    ensures keeps { C.flash chip.new ≡ C.flash chip.old }
 {
     describe_all(read_front(chip, block))
 }

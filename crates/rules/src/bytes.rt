@@ -10,10 +10,10 @@ pub const ERASED: u8 = 0xFF;
 
 // Fills a buffer with the bytes of a block from an offset on.
 pub fn read_bytes<C: Chip>(chip: &mut C, block: Block, at: usize, into: &mut [u8])
-    requires power { (flash chip.old).on ≡ true }
-    requires within { Within (flash chip.old).blocks block.0 at (length into.old) (length into.old) }
-    ensures copies { Copies (flash chip.old) block.0 at (length into.old) into.new }
-    ensures keeps { flash chip.new ≡ flash chip.old }
+    requires power { (C.flash chip.old).on ≡ true }
+    requires within { Within (C.flash chip.old).blocks block.0 at (length into.old) (length into.old) }
+    ensures copies { Copies (C.flash chip.old) block.0 at (length into.old) into.new }
+    ensures keeps { C.flash chip.new ≡ C.flash chip.old }
 {
     let span = Span {
         block,
@@ -37,10 +37,10 @@ fn has_mark(bytes: &[u8]) -> bool
 
 // Whether one of the bytes of a block from an offset on, as many as the buffer takes, is not erased.
 pub fn is_marked<C: Chip>(chip: &mut C, block: Block, at: usize, buffer: &mut [u8]) -> bool
-    requires power { (flash chip.old).on ≡ true }
-    requires within { Within (flash chip.old).blocks block.0 at (length buffer.old) (length buffer.old) }
-    ensures tells { Tells result (Marked (λ k. (flash chip.old).byte block.0 (at + k)) (length buffer.old)) }
-    ensures keeps { flash chip.new ≡ flash chip.old }
+    requires power { (C.flash chip.old).on ≡ true }
+    requires within { Within (C.flash chip.old).blocks block.0 at (length buffer.old) (length buffer.old) }
+    ensures tells { Tells result (Marked (λ k. (C.flash chip.old).byte block.0 (at + k)) (length buffer.old)) }
+    ensures keeps { C.flash chip.new ≡ C.flash chip.old }
 {
     read_bytes(chip, block, at, buffer);
     has_mark(buffer)

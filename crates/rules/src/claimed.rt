@@ -25,9 +25,9 @@ fn first_unclaimed(slots: &[Descriptor]) -> Option<u16>
 
 // How many slots are claimed: those before the first, in the order of the log, that is not.
 pub fn claimed_slots<C: Chip>(chip: &mut C, layout: Layout) -> u16
-    requires { Ready (flash chip.old) layout.sizes layout.cleared }
-    ensures count { result ≡ claimed (flash chip.old) layout.sizes layout.cleared }
-    ensures keeps { flash chip.new ≡ flash chip.old }
+    requires { Ready (C.flash chip.old) layout.sizes layout.cleared }
+    ensures count { result ≡ claimed (C.flash chip.old) layout.sizes layout.cleared }
+    ensures keeps { C.flash chip.new ≡ C.flash chip.old }
 {
     for turn in 0..layout.turns() {
         let slots = read_turn(chip, layout, turn);

@@ -39,9 +39,9 @@ fn has_stray(page: &[u8]) -> bool
 
 // The same of the directory of a chip's block.
 fn is_scribbled<C: Chip>(chip: &mut C, block: Block) -> bool
-    requires { ((flash chip.old).on ≡ true) × (block.0 < (flash chip.old).blocks) }
-    ensures tells { Tells result (Strays ((flash chip.old).byte block.0)) }
-    ensures keeps { flash chip.new ≡ flash chip.old }
+    requires { ((C.flash chip.old).on ≡ true) × (block.0 < (C.flash chip.old).blocks) }
+    ensures tells { Tells result (Strays ((C.flash chip.old).byte block.0)) }
+    ensures keeps { C.flash chip.new ≡ C.flash chip.old }
 {
     let mut page = [ERASED; PAGE];
     read_bytes(chip, block, 0, &mut page);
@@ -50,9 +50,9 @@ fn is_scribbled<C: Chip>(chip: &mut C, block: Block) -> bool
 
 // The first ring block with a directory that has more than its descriptors in it.
 pub fn scribbled_block<C: Chip>(chip: &mut C, layout: Layout) -> Option<RingBlock>
-    requires { Ready (flash chip.old) layout.sizes layout.cleared }
-    ensures first { FirstBlock (At layout.sizes layout.cleared (block_at layout.sizes layout.cleared) (Scribbled (flash chip.old) layout.sizes layout.cleared)) result }
-    ensures keeps { flash chip.new ≡ flash chip.old }
+    requires { Ready (C.flash chip.old) layout.sizes layout.cleared }
+    ensures first { FirstBlock (At layout.sizes layout.cleared (block_at layout.sizes layout.cleared) (Scribbled (C.flash chip.old) layout.sizes layout.cleared)) result }
+    ensures keeps { C.flash chip.new ≡ C.flash chip.old }
 {
     for b in 0..layout.sizes.ring {
         let block = RingBlock(b);

@@ -22,12 +22,12 @@ fn flags_before<C: Chip>(
     slots: &[Descriptor],
     j: u16,
 ) -> u8
-    requires ready { Ready (flash chip.old) layout.sizes layout.cleared }
-    requires shows { Shows (flash chip.old) layout.sizes layout.cleared turn slots.now }
+    requires ready { Ready (C.flash chip.old) layout.sizes layout.cleared }
+    requires shows { Shows (C.flash chip.old) layout.sizes layout.cleared turn slots.now }
     requires inside { j < 7 }
     requires behind { 0 < 7 * turn + j }
-    ensures flags { result ≡ flags_at (flash chip.old) layout.sizes layout.cleared (7 * turn + j - 1) }
-    ensures keeps { flash chip.new ≡ flash chip.old }
+    ensures flags { result ≡ flags_at (C.flash chip.old) layout.sizes layout.cleared (7 * turn + j - 1) }
+    ensures keeps { C.flash chip.new ≡ C.flash chip.old }
 {
     if j > 0 {
         return slots[usize::from(j) - 1].flags;
@@ -53,11 +53,11 @@ fn splits_group<C: Chip>(
     slots: &[Descriptor],
     j: u16,
 ) -> bool
-    requires ready { Ready (flash chip.old) layout.sizes layout.cleared }
-    requires shows { Shows (flash chip.old) layout.sizes layout.cleared turn slots.now }
+    requires ready { Ready (C.flash chip.old) layout.sizes layout.cleared }
+    requires shows { Shows (C.flash chip.old) layout.sizes layout.cleared turn slots.now }
     requires inside { j < 7 }
-    ensures tells { Tells result ((0 < 7 * turn + j) × (7 * turn + j < claimed) × (is_copy (slice_index_or slots.now j none).flags ≡ true) × (ends (flags_at (flash chip.old) layout.sizes layout.cleared (7 * turn + j - 1)) ≡ false)) }
-    ensures keeps { flash chip.new ≡ flash chip.old }
+    ensures tells { Tells result ((0 < 7 * turn + j) × (7 * turn + j < claimed) × (is_copy (slice_index_or slots.now j none).flags ≡ true) × (ends (flags_at (C.flash chip.old) layout.sizes layout.cleared (7 * turn + j - 1)) ≡ false)) }
+    ensures keeps { C.flash chip.new ≡ C.flash chip.old }
 {
     let position = 7 * turn + j;
     if position == 0 || position >= claimed || !is_copy(slots[usize::from(j)].flags) {
@@ -75,12 +75,12 @@ pub fn is_misplaced<C: Chip>(
     slots: &[Descriptor],
     j: u16,
 ) -> bool
-    requires ready { Ready (flash chip.old) layout.sizes layout.cleared }
-    requires count { claimed ≡ claimed_of (flash chip.old) layout.sizes layout.cleared }
-    requires shows { Shows (flash chip.old) layout.sizes layout.cleared turn slots.now }
+    requires ready { Ready (C.flash chip.old) layout.sizes layout.cleared }
+    requires count { claimed ≡ claimed_of (C.flash chip.old) layout.sizes layout.cleared }
+    requires shows { Shows (C.flash chip.old) layout.sizes layout.cleared turn slots.now }
     requires inside { j < 7 }
-    ensures tells { Tells result (Misplaced (flash chip.old) layout.sizes layout.cleared (7 * turn + j)) }
-    ensures keeps { flash chip.new ≡ flash chip.old }
+    ensures tells { Tells result (Misplaced (C.flash chip.old) layout.sizes layout.cleared (7 * turn + j)) }
+    ensures keeps { C.flash chip.new ≡ C.flash chip.old }
 {
     is_unfinished(7 * turn + j, claimed, slots[usize::from(j)].flags)
         || splits_group(chip, layout, claimed, turn, slots, j)

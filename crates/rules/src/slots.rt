@@ -46,12 +46,12 @@ fn breaks<C: Chip>(
     slots: &[Descriptor],
     j: u16,
 ) -> bool
-    requires ready { Ready (flash chip.old) layout.sizes layout.cleared }
-    requires knows { Knows (flash chip.old) layout.sizes layout.cleared rule }
-    requires shows { Shows (flash chip.old) layout.sizes layout.cleared turn slots.now }
+    requires ready { Ready (C.flash chip.old) layout.sizes layout.cleared }
+    requires knows { Knows (C.flash chip.old) layout.sizes layout.cleared rule }
+    requires shows { Shows (C.flash chip.old) layout.sizes layout.cleared turn slots.now }
     requires inside { j < 7 }
-    ensures tells { Tells result (Breaks (flash chip.old) layout.sizes layout.cleared rule (7 * turn + j)) }
-    ensures keeps { flash chip.new ≡ flash chip.old }
+    ensures tells { Tells result (Breaks (C.flash chip.old) layout.sizes layout.cleared rule (7 * turn + j)) }
+    ensures keeps { C.flash chip.new ≡ C.flash chip.old }
 {
     let slot = slots[usize::from(j)];
     match rule {
@@ -64,11 +64,11 @@ fn breaks<C: Chip>(
 
 // The first slot of the block at a turn of the log that breaks a rule.
 fn first_at_turn<C: Chip>(chip: &mut C, layout: Layout, rule: Rule, turn: u16) -> Option<u16>
-    requires ready { Ready (flash chip.old) layout.sizes layout.cleared }
-    requires knows { Knows (flash chip.old) layout.sizes layout.cleared rule }
+    requires ready { Ready (C.flash chip.old) layout.sizes layout.cleared }
+    requires knows { Knows (C.flash chip.old) layout.sizes layout.cleared rule }
     requires inside { turn < turns_of layout.sizes layout.cleared }
-    ensures first { FirstAtTurn (Breaks (flash chip.old) layout.sizes layout.cleared rule) turn result }
-    ensures keeps { flash chip.new ≡ flash chip.old }
+    ensures first { FirstAtTurn (Breaks (C.flash chip.old) layout.sizes layout.cleared rule) turn result }
+    ensures keeps { C.flash chip.new ≡ C.flash chip.old }
 {
     let slots = read_turn(chip, layout, turn);
     for j in 0..7 {
@@ -81,10 +81,10 @@ fn first_at_turn<C: Chip>(chip: &mut C, layout: Layout, rule: Rule, turn: u16) -
 
 // The first slot around the ring that breaks a rule. A block that is being erased has no turn, so it breaks none.
 fn first_slot<C: Chip>(chip: &mut C, layout: Layout, rule: Rule) -> Option<Slot>
-    requires ready { Ready (flash chip.old) layout.sizes layout.cleared }
-    requires knows { Knows (flash chip.old) layout.sizes layout.cleared rule }
-    ensures first { FirstSlot (At layout.sizes layout.cleared (slot_at layout.sizes layout.cleared) (Breaks (flash chip.old) layout.sizes layout.cleared rule)) result }
-    ensures keeps { flash chip.new ≡ flash chip.old }
+    requires ready { Ready (C.flash chip.old) layout.sizes layout.cleared }
+    requires knows { Knows (C.flash chip.old) layout.sizes layout.cleared rule }
+    ensures first { FirstSlot (At layout.sizes layout.cleared (slot_at layout.sizes layout.cleared) (Breaks (C.flash chip.old) layout.sizes layout.cleared rule)) result }
+    ensures keeps { C.flash chip.new ≡ C.flash chip.old }
 {
     for b in 0..layout.sizes.ring {
         if let Some(turn) = layout.turn_of(RingBlock(b)) {
@@ -98,38 +98,38 @@ fn first_slot<C: Chip>(chip: &mut C, layout: Layout, rule: Rule) -> Option<Slot>
 
 // The first slot whose flags are not legal.
 pub fn illegal_slot<C: Chip>(chip: &mut C, layout: Layout) -> Option<Slot>
-    requires { Ready (flash chip.old) layout.sizes layout.cleared }
-    ensures first { FirstSlot (At layout.sizes layout.cleared (slot_at layout.sizes layout.cleared) (Illegal (flash chip.old) layout.sizes layout.cleared)) result }
-    ensures keeps { flash chip.new ≡ flash chip.old }
+    requires { Ready (C.flash chip.old) layout.sizes layout.cleared }
+    ensures first { FirstSlot (At layout.sizes layout.cleared (slot_at layout.sizes layout.cleared) (Illegal (C.flash chip.old) layout.sizes layout.cleared)) result }
+    ensures keeps { C.flash chip.new ≡ C.flash chip.old }
 {
     first_slot(chip, layout, Rule::Legal)
 }
 
 // The first slot behind the `claimed` ones that is not erased.
 pub fn unclean_slot<C: Chip>(chip: &mut C, layout: Layout, claimed: u16) -> Option<Slot>
-    requires ready { Ready (flash chip.old) layout.sizes layout.cleared }
-    requires count { claimed ≡ claimed_of (flash chip.old) layout.sizes layout.cleared }
-    ensures first { FirstSlot (At layout.sizes layout.cleared (slot_at layout.sizes layout.cleared) (Unclean (flash chip.old) layout.sizes layout.cleared)) result }
-    ensures keeps { flash chip.new ≡ flash chip.old }
+    requires ready { Ready (C.flash chip.old) layout.sizes layout.cleared }
+    requires count { claimed ≡ claimed_of (C.flash chip.old) layout.sizes layout.cleared }
+    ensures first { FirstSlot (At layout.sizes layout.cleared (slot_at layout.sizes layout.cleared) (Unclean (C.flash chip.old) layout.sizes layout.cleared)) result }
+    ensures keeps { C.flash chip.new ≡ C.flash chip.old }
 {
     first_slot(chip, layout, Rule::Clean(claimed))
 }
 
 // The first of the `claimed` slots that is out of order.
 pub fn misplaced_slot<C: Chip>(chip: &mut C, layout: Layout, claimed: u16) -> Option<Slot>
-    requires ready { Ready (flash chip.old) layout.sizes layout.cleared }
-    requires count { claimed ≡ claimed_of (flash chip.old) layout.sizes layout.cleared }
-    ensures first { FirstSlot (At layout.sizes layout.cleared (slot_at layout.sizes layout.cleared) (Misplaced (flash chip.old) layout.sizes layout.cleared)) result }
-    ensures keeps { flash chip.new ≡ flash chip.old }
+    requires ready { Ready (C.flash chip.old) layout.sizes layout.cleared }
+    requires count { claimed ≡ claimed_of (C.flash chip.old) layout.sizes layout.cleared }
+    ensures first { FirstSlot (At layout.sizes layout.cleared (slot_at layout.sizes layout.cleared) (Misplaced (C.flash chip.old) layout.sizes layout.cleared)) result }
+    ensures keeps { C.flash chip.new ≡ C.flash chip.old }
 {
     first_slot(chip, layout, Rule::Ordered(claimed))
 }
 
 // The first slot whose sector number is not one of the volume's.
 pub fn beyond_slot<C: Chip>(chip: &mut C, layout: Layout) -> Option<Slot>
-    requires { Ready (flash chip.old) layout.sizes layout.cleared }
-    ensures first { FirstSlot (At layout.sizes layout.cleared (slot_at layout.sizes layout.cleared) (Beyond (flash chip.old) layout.sizes layout.cleared)) result }
-    ensures keeps { flash chip.new ≡ flash chip.old }
+    requires { Ready (C.flash chip.old) layout.sizes layout.cleared }
+    ensures first { FirstSlot (At layout.sizes layout.cleared (slot_at layout.sizes layout.cleared) (Beyond (C.flash chip.old) layout.sizes layout.cleared)) result }
+    ensures keeps { C.flash chip.new ≡ C.flash chip.old }
 {
     first_slot(chip, layout, Rule::InRange)
 }

@@ -9,9 +9,9 @@ use ring::layout::Layout;
 
 // The descriptors of the block at a turn of the log.
 pub fn read_turn<C: Chip>(chip: &mut C, layout: Layout, turn: u16) -> [Descriptor; 7]
-    requires { (Ready (flash chip.old) layout.sizes layout.cleared) × (turn < turns_of layout.sizes layout.cleared) }
-    ensures shows { Shows (flash chip.old) layout.sizes layout.cleared turn result }
-    ensures keeps { flash chip.new ≡ flash chip.old }
+    requires { (Ready (C.flash chip.old) layout.sizes layout.cleared) × (turn < turns_of layout.sizes layout.cleared) }
+    ensures shows { Shows (C.flash chip.old) layout.sizes layout.cleared turn result }
+    ensures keeps { C.flash chip.new ≡ C.flash chip.old }
 {
     let block = layout.block_at_turn(turn);
     read_descriptors(chip, layout.chip_block(block))

@@ -12,11 +12,11 @@ use ring::layout::Layout;
 
 // Whether the descriptor or the page of a block's slot `j` is not erased.
 fn is_used<C: Chip>(chip: &mut C, block: Block, j: u16) -> bool
-    requires power { (flash chip.old).on ≡ true }
-    requires there { block.0 < (flash chip.old).blocks }
+    requires power { (C.flash chip.old).on ≡ true }
+    requires there { block.0 < (C.flash chip.old).blocks }
     requires inside { j < 7 }
-    ensures tells { Tells result (Marked (λ i. (flash chip.old).byte block.0 (4 * j + i)) 4 ⊎ Marked (λ o. (flash chip.old).byte block.0 (512 * (j + 1) + o)) 512) }
-    ensures keeps { flash chip.new ≡ flash chip.old }
+    ensures tells { Tells result (Marked (λ i. (C.flash chip.old).byte block.0 (4 * j + i)) 4 ⊎ Marked (λ o. (C.flash chip.old).byte block.0 (512 * (j + 1) + o)) 512) }
+    ensures keeps { C.flash chip.new ≡ C.flash chip.old }
 {
     let slot = usize::from(j);
     let mut descriptor = [ERASED; 4];
@@ -27,12 +27,12 @@ fn is_used<C: Chip>(chip: &mut C, block: Block, j: u16) -> bool
 
 // Whether the slot `j` of the block at a turn of the log is behind the claimed ones, and not erased.
 pub fn is_unclean<C: Chip>(chip: &mut C, layout: Layout, claimed: u16, turn: u16, j: u16) -> bool
-    requires ready { Ready (flash chip.old) layout.sizes layout.cleared }
-    requires count { claimed ≡ claimed_of (flash chip.old) layout.sizes layout.cleared }
+    requires ready { Ready (C.flash chip.old) layout.sizes layout.cleared }
+    requires count { claimed ≡ claimed_of (C.flash chip.old) layout.sizes layout.cleared }
     requires turn { turn < turns_of layout.sizes layout.cleared }
     requires inside { j < 7 }
-    ensures tells { Tells result (Unclean (flash chip.old) layout.sizes layout.cleared (7 * turn + j)) }
-    ensures keeps { flash chip.new ≡ flash chip.old }
+    ensures tells { Tells result (Unclean (C.flash chip.old) layout.sizes layout.cleared (7 * turn + j)) }
+    ensures keeps { C.flash chip.new ≡ C.flash chip.old }
 {
     if 7 * turn + j < claimed {
         return false;

@@ -68,8 +68,8 @@ fn page_of(bytes: &[u8]) -> [u8; 512]
 
 // Makes a read into a buffer.
 fn read_page<C: Chip>(engine: &mut Engine<C>, sector: Sector, into: &mut [u8]) -> Answer
-    ensures shows { Shows sector.0 (flash engine.old.chip) engine.old.memory into.old result into.new }
-    ensures keeps { (flash engine.new.chip ≡ flash engine.old.chip) × (engine.new.memory ≡ engine.old.memory) }
+    ensures shows { Shows sector.0 (C.flash engine.old.chip) engine.old.memory into.old result into.new }
+    ensures keeps { (C.flash engine.new.chip ≡ C.flash engine.old.chip) × (engine.new.memory ≡ engine.old.memory) }
 {
     match engine.read(sector, into) {
         Ok(found) => Answer::Shown(found, page_of(into)),
@@ -79,7 +79,7 @@ fn read_page<C: Chip>(engine: &mut Engine<C>, sector: Sector, into: &mut [u8]) -
 
 // Makes a read of `len` bytes, or of all the buffer if that is less.
 fn show<C: Chip>(engine: &mut Engine<C>, sector: Sector, len: usize, buffer: &mut [u8]) -> Answer
-    ensures calls { Calls (length buffer.old) (flash engine.old.chip) engine.old.memory (Read sector len) result (flash engine.new.chip) engine.new.memory }
+    ensures calls { Calls (length buffer.old) (C.flash engine.old.chip) engine.old.memory (Read sector len) result (C.flash engine.new.chip) engine.new.memory }
     ensures same { length buffer.new ≡ length buffer.old }
 {
     let room = len.min(buffer.len());
@@ -88,7 +88,7 @@ fn show<C: Chip>(engine: &mut Engine<C>, sector: Sector, len: usize, buffer: &mu
 
 // Makes one call.
 fn serve<'a, C: Chip>(engine: &mut Engine<C>, call: Call<'a>, buffer: &mut [u8]) -> Answer
-    ensures calls { Calls (length buffer.old) (flash engine.old.chip) engine.old.memory call.entry result (flash engine.new.chip) engine.new.memory }
+    ensures calls { Calls (length buffer.old) (C.flash engine.old.chip) engine.old.memory call.entry result (C.flash engine.new.chip) engine.new.memory }
     ensures same { length buffer.new ≡ length buffer.old }
 {
     match call {
@@ -116,7 +116,7 @@ pub fn run_calls<'a, C: Chip>(
     answers: &mut [Answer],
     buffer: &mut [u8],
 ) -> Result<usize, Refusal>
-    ensures law { Runs (length buffer.old) sectors tally name.now (flash engine.old.chip) engine.old.memory calls.now result answers.new (flash engine.new.chip) engine.new.memory }
+    ensures law { Runs (length buffer.old) sectors tally name.now (C.flash engine.old.chip) engine.old.memory calls.now result answers.new (C.flash engine.new.chip) engine.new.memory }
     ensures noted { Noted calls.now answers.old result answers.new }
 {
     engine.format(sectors, tally, name)?;

@@ -57,7 +57,7 @@ impl<C: Chip> Session<C> {
 
     // Carries out one line. A plan comes too late here: it is only for the first line.
     pub fn serve(&mut self, line: &[u8]) -> Reply
-        ensures { Serves line.now (flash self.old.volume.chip) result (flash self.new.volume.chip) }
+        ensures { Serves line.now (C.flash self.old.volume.chip) result (C.flash self.new.volume.chip) }
     {
         let Some(said) = read_line(line) else {
             return Reply::Unknown;

@@ -57,9 +57,9 @@ fn add_page(mut cleared: u32, page: &[u8], first: u16) -> Result<u32, Disorder>
 
 // A page of the tally, counted from the front of its first block.
 fn read_page<C: Chip>(chip: &mut C, page: u16) -> [u8; 512]
-    requires { ((flash chip.old).on ≡ true) × ((page < 64) × (8 + page < 8 * (flash chip.old).blocks)) }
-    ensures bytes { Holds (flash chip.old) (512 * page) result }
-    ensures keeps { flash chip.new ≡ flash chip.old }
+    requires { ((C.flash chip.old).on ≡ true) × ((page < 64) × (8 + page < 8 * (C.flash chip.old).blocks)) }
+    ensures bytes { Holds (C.flash chip.old) (512 * page) result }
+    ensures keeps { C.flash chip.new ≡ C.flash chip.old }
 {
     let mut bytes = [0xFF; PAGE];
     let span = Span {
@@ -74,9 +74,9 @@ fn read_page<C: Chip>(chip: &mut C, page: u16) -> [u8; 512]
 // Reads the tally of `blocks` blocks: how many erases are booked, and whether one more has begun; or the first byte
 // that is out of order.
 pub fn read_tally<C: Chip>(chip: &mut C, blocks: u16) -> Result<(u32, bool), Disorder>
-    requires { ((flash chip.old).on ≡ true) × ((blocks ≤ 8) × (blocks < (flash chip.old).blocks)) }
-    ensures answers { Tallied (flash chip.old) blocks result }
-    ensures keeps { flash chip.new ≡ flash chip.old }
+    requires { ((C.flash chip.old).on ≡ true) × ((blocks ≤ 8) × (blocks < (C.flash chip.old).blocks)) }
+    ensures answers { Tallied (C.flash chip.old) blocks result }
+    ensures keeps { C.flash chip.new ≡ C.flash chip.old }
 {
     let mut cleared = 0;
     for page in 0..PAGES * blocks {

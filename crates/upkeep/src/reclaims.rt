@@ -21,8 +21,8 @@ fn copy_live<C: Chip>(
     from: Position,
     to: Position,
 ) -> Result<(), Fault>
-    requires { Ready (flash chip.old) layout.sizes layout.cleared }
-    ensures { Copies (flash chip.old) layout.sizes layout.cleared from.0 to.0 result (flash chip.new) }
+    requires { Ready (C.flash chip.old) layout.sizes layout.cleared }
+    ensures { Copies (C.flash chip.old) layout.sizes layout.cleared from.0 to.0 result (C.flash chip.new) }
 {
     let mut page = [0xFF; 512];
     let sector = read_entry(chip, layout, from, &mut page);
@@ -31,8 +31,8 @@ fn copy_live<C: Chip>(
 
 // Copies what is live of the first seven positions to the end of the log, and tells how many slots that took.
 fn move_live<C: Chip>(chip: &mut C, log: Log) -> Result<u16, Fault>
-    requires { Standing (flash chip.old) log }
-    ensures { Moved (flash chip.old) log result (flash chip.new) }
+    requires { Standing (C.flash chip.old) log }
+    ensures { Moved (C.flash chip.old) log result (C.flash chip.new) }
 {
     let front = live_front(chip, log.layout, log.claimed);
     let mut copies = 0;
@@ -48,11 +48,11 @@ fn move_live<C: Chip>(chip: &mut C, log: Log) -> Result<u16, Fault>
 
 // Gives the oldest block back to the ring, and tells where the log then stands.
 pub fn reclaim<C: Chip>(chip: &mut C, log: Log) -> Result<Log, Fault>
-    requires stands { Standing (flash chip.old) log }
+    requires stands { Standing (C.flash chip.old) log }
     requires idle { log.layout.cleared % 2 ≡ 0 }
     requires bits { log.layout.cleared < 32768 * log.layout.sizes.tally }
-    ensures reclaims { Reclaimed (flash chip.old) log result (flash chip.new) }
-    ensures stands { IfOk result (Standing (flash chip.new)) }
+    ensures reclaims { Reclaimed (C.flash chip.old) log result (C.flash chip.new) }
+    ensures stands { IfOk result (Standing (C.flash chip.new)) }
 {
     let copies = move_live(chip, log)?;
     free_oldest(chip, log.layout)?;

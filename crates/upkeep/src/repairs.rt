@@ -16,11 +16,11 @@ use writes::slot::{drop_slot, finish_copy};
 
 // Finishes the copy that is the last claimed slot, from the first live position.
 fn finish_last<C: Chip>(chip: &mut C, log: Log) -> Result<(), Fault>
-    requires stands { Standing (flash chip.old) log }
+    requires stands { Standing (C.flash chip.old) log }
     requires idle { log.layout.cleared % 2 ≡ 0 }
     requires some { 0 < log.claimed }
-    requires copy { unclosed_copy (last_of (flash chip.old) log.layout.sizes log.layout.cleared log.claimed) ≡ true }
-    ensures { Mended (flash chip.old) log result (flash chip.new) }
+    requires copy { unclosed_copy (last_of (C.flash chip.old) log.layout.sizes log.layout.cleared log.claimed) ≡ true }
+    ensures { Mended (C.flash chip.old) log result (C.flash chip.new) }
 {
     let source = first_of(live_front(chip, log.layout, log.claimed));
     if source == 7 {
@@ -33,8 +33,8 @@ fn finish_last<C: Chip>(chip: &mut C, log: Log) -> Result<(), Fault>
 
 // Ends what the last claimed slot has left open: a copy is finished, and any other group is dropped.
 fn mend_last<C: Chip>(chip: &mut C, log: Log) -> Result<(), Fault>
-    requires { (Standing (flash chip.old) log) × (log.layout.cleared % 2 ≡ 0) }
-    ensures { Mended (flash chip.old) log result (flash chip.new) }
+    requires { (Standing (C.flash chip.old) log) × (log.layout.cleared % 2 ≡ 0) }
+    ensures { Mended (C.flash chip.old) log result (C.flash chip.new) }
 {
     if log.claimed == 0 {
         return Ok(());
@@ -52,8 +52,8 @@ fn mend_last<C: Chip>(chip: &mut C, log: Log) -> Result<(), Fault>
 
 // Repairs an image by its log, and tells where the log then stands.
 pub fn repair<C: Chip>(chip: &mut C, log: Log) -> Result<Log, Fault>
-    requires { Standing (flash chip.old) log }
-    ensures { Repaired (flash chip.old) log result (flash chip.new) }
+    requires { Standing (C.flash chip.old) log }
+    ensures { Repaired (C.flash chip.old) log result (C.flash chip.new) }
 {
     if log.layout.begun() {
         rebook(chip, log.layout)?;

@@ -19,9 +19,9 @@ const BITS: u32 = 32768;
 
 // Reclaims while fewer than so many slots are unclaimed.
 pub fn make_room<C: Chip>(chip: &mut C, log: Log, slots: u16) -> Result<Room, Fault>
-    requires { (Standing (flash chip.old) log) × (log.layout.cleared % 2 ≡ 0) }
-    ensures rooms { RoomMade (flash chip.old) log slots result (flash chip.new) }
-    ensures stands { RoomStands (flash chip.new) result }
+    requires { (Standing (C.flash chip.old) log) × (log.layout.cleared % 2 ≡ 0) }
+    ensures rooms { RoomMade (C.flash chip.old) log slots result (C.flash chip.new) }
+    ensures stands { RoomStands (C.flash chip.new) result }
 {
     let mut log = log;
     while 7 * log.layout.turns() - log.claimed < slots {

@@ -41,7 +41,7 @@ impl<C: Chip> Volume<C> {
     // Erases the whole chip and writes the label of `sectors` sectors, `tally` tally blocks and this name; an empty
     // name is none. The blocks that are left are the ring.
     pub fn format(&mut self, sectors: u16, tally: u16, name: &[u8]) -> Result<(), Refusal>
-        ensures formats { Formats sectors tally name.now (flash self.old.chip) result (flash self.new.chip) }
+        ensures formats { Formats sectors tally name.now (C.flash self.old.chip) result (C.flash self.new.chip) }
         ensures untouched { Untouched result self.old self.new }
     {
         let Some(label) = label_for(self.chip.blocks(), sectors, tally, name) else {

@@ -29,8 +29,8 @@ pub fn put_slot<C: Chip>(
     sector: Sector,
     page: &[u8],
 ) -> Result<(), Fault>
-    requires { (Ready (flash chip.old) layout.sizes layout.cleared) × (length page.now ≡ 512) }
-    ensures { Performs (putting layout.sizes layout.cleared at.0 sector.0 page.now) (flash chip.old) result (flash chip.new) }
+    requires { (Ready (C.flash chip.old) layout.sizes layout.cleared) × (length page.now ≡ 512) }
+    ensures { Performs (putting layout.sizes layout.cleared at.0 sector.0 page.now) (C.flash chip.old) result (C.flash chip.new) }
 {
     mark(chip, layout, at, CLAIMED_PUT)?;
     number(chip, layout, at, sector)?;
@@ -40,16 +40,16 @@ pub fn put_slot<C: Chip>(
 
 // Closes the batch that ends at a position.
 pub fn close_slot<C: Chip>(chip: &mut C, layout: Layout, at: Position) -> Result<(), Fault>
-    requires { Ready (flash chip.old) layout.sizes layout.cleared }
-    ensures { Performs (closing layout.sizes layout.cleared at.0) (flash chip.old) result (flash chip.new) }
+    requires { Ready (C.flash chip.old) layout.sizes layout.cleared }
+    ensures { Performs (closing layout.sizes layout.cleared at.0) (C.flash chip.old) result (C.flash chip.new) }
 {
     mark(chip, layout, at, CLOSED)
 }
 
 // Drops the batch that ends at a position.
 pub fn drop_slot<C: Chip>(chip: &mut C, layout: Layout, at: Position) -> Result<(), Fault>
-    requires { Ready (flash chip.old) layout.sizes layout.cleared }
-    ensures { Performs (dropping layout.sizes layout.cleared at.0) (flash chip.old) result (flash chip.new) }
+    requires { Ready (C.flash chip.old) layout.sizes layout.cleared }
+    ensures { Performs (dropping layout.sizes layout.cleared at.0) (C.flash chip.old) result (C.flash chip.new) }
 {
     mark(chip, layout, at, DROPPED)
 }
@@ -62,8 +62,8 @@ pub fn finish_copy<C: Chip>(
     sector: Sector,
     page: &[u8],
 ) -> Result<(), Fault>
-    requires { (Ready (flash chip.old) layout.sizes layout.cleared) × (length page.now ≡ 512) }
-    ensures { Performs (finishing layout.sizes layout.cleared at.0 sector.0 page.now) (flash chip.old) result (flash chip.new) }
+    requires { (Ready (C.flash chip.old) layout.sizes layout.cleared) × (length page.now ≡ 512) }
+    ensures { Performs (finishing layout.sizes layout.cleared at.0 sector.0 page.now) (C.flash chip.old) result (C.flash chip.new) }
 {
     number(chip, layout, at, sector)?;
     fill(chip, layout, at, page)?;
@@ -79,8 +79,8 @@ pub fn copy_slot<C: Chip>(
     sector: Sector,
     page: &[u8],
 ) -> Result<(), Fault>
-    requires { (Ready (flash chip.old) layout.sizes layout.cleared) × (length page.now ≡ 512) }
-    ensures { Performs (copying layout.sizes layout.cleared at.0 sector.0 page.now) (flash chip.old) result (flash chip.new) }
+    requires { (Ready (C.flash chip.old) layout.sizes layout.cleared) × (length page.now ≡ 512) }
+    ensures { Performs (copying layout.sizes layout.cleared at.0 sector.0 page.now) (C.flash chip.old) result (C.flash chip.new) }
 {
     mark(chip, layout, at, CLAIMED_COPY)?;
     finish_copy(chip, layout, at, sector, page)

@@ -12,7 +12,7 @@ use ring::layout::Layout;
 // Clears the bits of a slot's flags that the mask lacks.
 pub fn mark<C: Chip>(chip: &mut C, layout: Layout, at: Position, mask: u8) -> Result<(), Fault>
     requires { Shaped layout.sizes layout.cleared }
-    ensures { Answers (marking layout.sizes layout.cleared at.0 mask) (flash chip.old) result (flash chip.new) }
+    ensures { Answers (marking layout.sizes layout.cleared at.0 mask) (C.flash chip.old) result (C.flash chip.new) }
 {
     let flags = Span {
         block: at.block(layout),
@@ -30,7 +30,7 @@ pub fn number<C: Chip>(
     sector: Sector,
 ) -> Result<(), Fault>
     requires { Shaped layout.sizes layout.cleared }
-    ensures { Answers (numbering layout.sizes layout.cleared at.0 sector.0) (flash chip.old) result (flash chip.new) }
+    ensures { Answers (numbering layout.sizes layout.cleared at.0 sector.0) (C.flash chip.old) result (C.flash chip.new) }
 {
     let number = Span {
         block: at.block(layout),
@@ -43,7 +43,7 @@ pub fn number<C: Chip>(
 // Writes the page of a slot.
 pub fn fill<C: Chip>(chip: &mut C, layout: Layout, at: Position, page: &[u8]) -> Result<(), Fault>
     requires { Shaped layout.sizes layout.cleared }
-    ensures { Answers (filling layout.sizes layout.cleared at.0 page.now) (flash chip.old) result (flash chip.new) }
+    ensures { Answers (filling layout.sizes layout.cleared at.0 page.now) (C.flash chip.old) result (C.flash chip.new) }
 {
     let whole = Span {
         block: at.block(layout),
@@ -64,7 +64,7 @@ const FIRST_BIT: u8 = 0x80;
 // Clears a bit of the tally.
 pub fn clear_bit<C: Chip>(chip: &mut C, bit: u32) -> Result<(), Fault>
     requires { bit < 262144 }
-    ensures { Answers (clearing bit) (flash chip.old) result (flash chip.new) }
+    ensures { Answers (clearing bit) (C.flash chip.old) result (C.flash chip.new) }
 {
     let byte = bit / BITS;
     let span = Span {
