@@ -4,21 +4,21 @@ use Rattle.std.proofs.lemmas.Result.{err_from_is_err_and}
 use Rattle.label.proofs.Steps.{Walked, here, again, walk}
 use Rattle.label.proofs.gather.Goals as goal
 
-pub returns-in-err-take : goal.returns-in-err-take
-returns-in-err-take c =
+pub returns-in_err-take : goal.returns-in_err-take
+returns-in_err-take c =
     let page = c.args.page.now in
     let inv = c.loop-field.invariant in
-    let field = c.in-ok-field.field in
+    let field = c.in_ok-field.field in
     let old = c.loop-field.found in
-    let i = here page inv.0 c.loop-field.at old field inv.1 c.in-ok-field.ensures.1 in
-    let a = again page inv.0 c.in-err-take.field-0.0 old c.take.new.self field i inv.1.says c.in-err-take.ensures in
-    let p = err_from_is_err_and c.from-residual-in-err-take.result c.from-residual-in-err-take.ensures.1 in
+    let i = here page inv.0 c.loop-field.at old field inv.1 c.in_ok-field.ensures.1 in
+    let a = again page inv.0 c.in_err-take.field-0.0 old c.take.new.self field i inv.1.says c.in_err-take.ensures in
+    let p = err_from_is_err_and c.from_residual-in_err-take.result c.from_residual-in_err-take.ensures.1 in
     rw (p.1, p.2) record { count = inv.0; before = inv.1.before; illegal = a.0; place = a.1 }
 
 pub loop-field-preserved : goal.loop-field-preserved
 loop-field-preserved c =
     let page = c.args.page.now in
     let inv = c.loop-field.invariant in
-    let read = c.in-ok-field.ensures in
-    let w = walk page inv.0 c.loop-field.at c.loop-field.found c.take.new.self c.in-ok-field.field inv.1 read.0 read.1 c.in-default.not-End c.in-ok-take.ensures in
+    let read = c.in_ok-field.ensures in
+    let w = walk page inv.0 c.loop-field.at c.loop-field.found c.take.new.self c.in_ok-field.field inv.1 read.0 read.1 c.in_default.not-End c.in_ok-take.ensures in
     (inv.0 + 1, subst (λ at. Walked page (inv.0 + 1) at c.take.new.self) (sym c.end-at.ensures) w)

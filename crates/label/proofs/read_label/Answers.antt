@@ -35,33 +35,33 @@ alike blocks f x y hx hy s =
       whole = omega arith;
     }
 
-pub returns-in-err-found : goal.returns-in-err-found
-returns-in-err-found c =
-    let b = c.in-err-found.ensures in
-    let p = err_from_is_err_and c.from-residual.result c.from-residual.ensures.1 in
+pub returns-in_err-found : goal.returns-in_err-found
+returns-in_err-found c =
+    let b = c.in_err-found.ensures in
+    let p = err_from_is_err_and c.from_residual.result c.from_residual.ensures.1 in
     rw (p.1, p.2) (field b.count (omega arith) b.before b.illegal b.place)
 
 pub returns-in-Some : goal.returns-in-Some
 returns-in-Some c =
     let page = c.args.page.now in
-    let g = c.in-ok-found.ensures in
+    let g = c.in_ok-found.ensures in
     let e = past page g.count _ g.ends g.end in
     stray g.count (omega arith) g.ends (subst (λ from. Stray page from c.in-Some.at) e c.in-Some.ensures)
 
-pub returns-in-default-sizes : goal.returns-in-default-sizes
-returns-in-default-sizes c =
+pub returns-in_default-sizes : goal.returns-in_default-sizes
+returns-in_default-sizes c =
     let page = c.args.page.now in
-    let g = c.in-ok-found.ensures in
+    let g = c.in_ok-found.ensures in
     let e = past page g.count _ g.ends g.end in
-    sizes g.count (omega arith) g.ends (subst (Blank page) e c.in-default.ensures)
-    (λ x h s. c.in-default-sizes.ensures x (found page g.count _ x g.ends.before g.says h))
+    sizes g.count (omega arith) g.ends (subst (Blank page) e c.in_default.ensures)
+    (λ x h s. c.in_default-sizes.ensures x (found page g.count _ x g.ends.before g.says h))
     g.end
 
 pub returns-then-not-fits : goal.returns-then-not-fits
 returns-then-not-fits c =
     let page = c.args.page.now in
-    let g = c.in-ok-found.ensures in
+    let g = c.in_ok-found.ensures in
     let e = past page g.count _ g.ends g.end in
-    sizes g.count (omega arith) g.ends (subst (Blank page) e c.in-default.ensures)
-    (λ x h s. c.if-not-fits.ensures (alike _ c.in-ok-found.field-0.found x _ (found page g.count _ x g.ends.before g.says h) c.in-Some-sizes.ensures s))
+    sizes g.count (omega arith) g.ends (subst (Blank page) e c.in_default.ensures)
+    (λ x h s. c.if-not-fits.ensures (alike _ c.in_ok-found.field-0.found x _ (found page g.count _ x g.ends.before g.says h) c.in-Some-sizes.ensures s))
     g.end

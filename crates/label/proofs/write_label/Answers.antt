@@ -11,7 +11,7 @@ pub add-requires-5 : goal.add-requires-5
 add-requires-5 c =
     let s = short c.args.name.now in
     let a = ap length c.number_field.ensures in
-    let b = ap length c.number-field-2.ensures in
-    let d = ap length c.number-field-3.ensures in
-    let e = ap length c.number-field-4.ensures in
-    omega (arith, c.add-name.ensures.len)
+    let b = ap length c.number_field-2.ensures in
+    let d = ap length c.number_field-3.ensures in
+    let e = ap length c.number_field-4.ensures in
+    omega (arith, c.add_name.ensures.len)

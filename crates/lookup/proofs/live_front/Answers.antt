@@ -10,15 +10,15 @@ use Rattle.lookup.proofs.live_front.Goals as goal
 
 pub loop-visit-init : goal.loop-visit-init
 loop-visit-init g c =
-    let s = g.C.Chip.flash c.directory-of.new.chip in
+    let s = g.C.Chip.flash c.directory_of.new.chip in
     let z = c.args.layout.sizes in
     let b = c.args.layout.cleared in
-    let all = subst (λ f. c.args.claimed ≡ claimed f z b) (sym c.directory-of.ensures.keeps) c.requires.1 in
-    (refl, c.from-newest-walk.ensures.walks s z b all, refl, λ j lt. c.before-front.ensures.1 j lt ∙ sym (last_none s z b (sector_of c.before-front.result.descriptors j) _ (c.from-newest-walk.ensures.place ∙ all)))
+    let all = subst (λ f. c.args.claimed ≡ claimed f z b) (sym c.directory_of.ensures.keeps) c.requires.1 in
+    (refl, c.from_newest-walk.ensures.walks s z b all, refl, λ j lt. c.before-front.ensures.1 j lt ∙ sym (last_none s z b (sector_of c.before-front.result.descriptors j) _ (c.from_newest-walk.ensures.place ∙ all)))
 
 pub loop-visit-preserved : goal.loop-visit-preserved
 loop-visit-preserved g c =
-    let s = g.C.Chip.flash c.directory-of.new.chip in
+    let s = g.C.Chip.flash c.directory_of.new.chip in
     let z = c.args.layout.sizes in
     let b = c.args.layout.cleared in
     let v = c.in-Some.visit in
@@ -39,9 +39,9 @@ returns g c =
     let front = c.before-front.result.descriptors in
     let walked = c.loop-visit.walk.position in
     let inv = c.loop-visit.invariant in
-    let latest = subst (λ f. Latest f z b front walked c.loop-visit.front.latest) c.directory-of.ensures.keeps inv.3 in
-    let described = subst (Describes s (chip_block z (block_at z b 0))) (sym c.before-front.ensures.0) c.directory-of.ensures.describes in
+    let latest = subst (λ f. Latest f z b front walked c.loop-visit.front.latest) c.directory_of.ensures.keeps inv.3 in
+    let described = subst (Describes s (chip_block z (block_at z b 0))) (sym c.before-front.ensures.0) c.directory_of.ensures.describes in
     record {
-      live = front_is s z b walked front c.loop-visit.front.latest c.own-places.result c.in-default.ensures.steps described latest c.own-places.ensures;
-      keeps = c.in-default.ensures.keeps ∙ inv.0 ∙ c.directory-of.ensures.keeps;
+      live = front_is s z b walked front c.loop-visit.front.latest c.own_places.result c.in_default.ensures.steps described latest c.own_places.ensures;
+      keeps = c.in_default.ensures.keeps ∙ inv.0 ∙ c.directory_of.ensures.keeps;
     }

@@ -8,10 +8,10 @@ loop-visit-init g c =
     let s = g.C.Chip.flash c.args.chip.now in
     let z = c.args.layout.sizes in
     let b = c.args.layout.cleared in
-    (refl, c.from-newest-walk.ensures.walks s z b c.requires.1, last_none s z b c.args.sector.0 _ (c.from-newest-walk.ensures.place ∙ c.requires.1))
+    (refl, c.from_newest-walk.ensures.walks s z b c.requires.1, last_none s z b c.args.sector.0 _ (c.from_newest-walk.ensures.place ∙ c.requires.1))
 
-pub slot-at-requires : goal.slot-at-requires
-slot-at-requires g c =
+pub slot_at-requires : goal.slot_at-requires
+slot_at-requires g c =
     let s = g.C.Chip.flash c.loop-visit.chip in
     (c.requires.0.shaped, omega (arith, c.in-Some.ensures.steps.2.inside, claimed_most s c.args.layout.sizes c.args.layout.cleared))
 
@@ -24,7 +24,7 @@ returns-then-hits g c =
     let inv = c.loop-visit.invariant in
     let step = same_step _ s z b c.loop-visit.walk c.back.new.self v inv.0 c.in-Some.ensures.steps in
     record {
-      found = (v.position, hit_is s z b c.args.sector.0 c.loop-visit.walk c.back.new.self v step inv.2 (sym c.hits.ensures ∙ c.if-hits.true), c.slot-at.ensures);
+      found = (v.position, hit_is s z b c.args.sector.0 c.loop-visit.walk c.back.new.self v step inv.2 (sym c.hits.ensures ∙ c.if-hits.true), c.slot_at.ensures);
       keeps = c.in-Some.ensures.keeps ∙ inv.0;
     }
 

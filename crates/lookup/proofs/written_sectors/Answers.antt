@@ -9,7 +9,7 @@ loop-visit-init g c =
     let s = g.C.Chip.flash c.args.chip.now in
     let z = c.args.layout.sizes in
     let b = c.args.layout.cleared in
-    (refl, c.from-newest-walk.ensures.walks s z b c.requires.1.0, λ x lt. c.none-written.ensures x ∙ sym (ap is_some (last_none s z b x _ (c.from-newest-walk.ensures.place ∙ c.requires.1.0))))
+    (refl, c.from_newest-walk.ensures.walks s z b c.requires.1.0, λ x lt. c.none-written.ensures x ∙ sym (ap is_some (last_none s z b x _ (c.from_newest-walk.ensures.place ∙ c.requires.1.0))))
 
 pub loop-visit-preserved : goal.loop-visit-preserved
 loop-visit-preserved g c =
@@ -26,6 +26,6 @@ loop-visit-preserved g c =
 
 pub returns : goal.returns
 returns g c = record {
-  count = c.count-below.ensures ∙ written_is (g.C.Chip.flash c.args.chip.now) c.args.layout.sizes c.args.layout.cleared c.loop-visit.walk.position c.loop-visit.written.words c.in-default.ensures.steps c.loop-visit.invariant.2;
-  keeps = c.in-default.ensures.keeps ∙ c.loop-visit.invariant.0;
+  count = c.count_below.ensures ∙ written_is (g.C.Chip.flash c.args.chip.now) c.args.layout.sizes c.args.layout.cleared c.loop-visit.walk.position c.loop-visit.written.words c.in_default.ensures.steps c.loop-visit.invariant.2;
+  keeps = c.in_default.ensures.keeps ∙ c.loop-visit.invariant.0;
 }

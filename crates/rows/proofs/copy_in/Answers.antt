@@ -4,4 +4,4 @@ use Rattle.rows.proofs.Written.{written}
 use Rattle.rows.proofs.copy_in.Goals as goal
 
 pub returns : goal.returns
-returns c = written c.args.row.now c.args.base _ _ _ refl c.copy-from-slice.ensures.after c.requires
+returns c = written c.args.row.now c.args.base _ _ _ refl c.copy_from_slice.ensures.after c.requires

@@ -8,5 +8,5 @@ returns-in-None c = no_plan _ c.args.first c.in-x.is c.in-None.ensures
 pub returns-in-None-one : goal.returns-in-None-one
 returns-in-None-one c = no_format _ c.args.first c.in-f.is c.in-None-one.ensures
 
-pub returns-in-default : goal.returns-in-default
-returns-in-default c = no_letter _ c.args.first (search rules) (search rules)
+pub returns-in_default : goal.returns-in_default
+returns-in_default c = no_letter _ c.args.first (search rules) (search rules)

@@ -4,10 +4,10 @@ use Rattle.tally.proofs.Scanning.{scanned_more, out_jumbled, out_late}
 use Rattle.tally.proofs.add_byte.Goals as goal
 use Rattle.tally.proofs.add_byte.Goals.{else-front-gt0-via-then-front-gt0+else-cleared-from, else-front-gt0-via-else-front-gt0}
 
-pub returns-in-default : goal.returns-in-default
-returns-in-default c = record {
+pub returns-in_default : goal.returns-in_default
+returns-in_default c = record {
   most = tt;
-  advances = λ s k h is inside. out_jumbled s _ _ h _ is k inside c.in-default.ensures;
+  advances = λ s k h is inside. out_jumbled s _ _ h _ is k inside c.in_default.ensures;
 }
 
 pub returns-then-cleared-from : goal.returns-then-cleared-from

@@ -4,10 +4,10 @@ use Rattle.std.proofs.lemmas.Result.{err_from_is_err_and}
 use Rattle.tally.specs.Counts.{Scanned}
 use Rattle.tally.proofs.add_page.Goals as goal
 
-pub returns-in-err-cleared : goal.returns-in-err-cleared
-returns-in-err-cleared c s k h holds inside =
-    let out = err_from_is_err_and c.from-residual.result c.from-residual.ensures.1 in
-    let advances = c.in-err-cleared.ensures.advances in
+pub returns-in_err-cleared : goal.returns-in_err-cleared
+returns-in_err-cleared c s k h holds inside =
+    let out = err_from_is_err_and c.from_residual.result c.from_residual.ensures.1 in
+    let advances = c.in_err-cleared.ensures.advances in
     rw (out.1, out.2) (advances s k (c.loop-i.invariant.1 s h holds) (sym (holds _ (omega arith))) (omega arith))
 
 pub loop-i-preserved : goal.loop-i-preserved
@@ -15,10 +15,10 @@ loop-i-preserved c =
     let i = c.loop-i.i in
     let first = c.args.first in
     let joined : first + i + 1 ≡ first + (i + 1) = omega arith in
-    let advances = c.in-ok-cleared.ensures.advances in (
-      omega (arith, c.in-ok-cleared.ensures.most),
+    let advances = c.in_ok-cleared.ensures.advances in (
+      omega (arith, c.in_ok-cleared.ensures.most),
       λ s h holds.
-          subst (λ n. Scanned s n c.in-ok-cleared.cleared) joined
+          subst (λ n. Scanned s n c.in_ok-cleared.cleared) joined
           (advances s (first + i + 1) (c.loop-i.invariant.1 s h holds) (sym (holds _ (omega arith))) (omega arith)),
     )
 

@@ -5,33 +5,33 @@ use Rattle.tally.specs.Counts.{Scanned, Holds}
 use Rattle.tally.proofs.Scanning.{told}
 use Rattle.tally.proofs.read_tally.Goals as goal
 
-pub add-page-requires : goal.add-page-requires
-add-page-requires g c =
-    let long : length c.read-page-bytes.result ≡ 512 = search rules in
+pub add_page-requires : goal.add_page-requires
+add_page-requires g c =
+    let long : length c.read_page-bytes.result ≡ 512 = search rules in
     (omega (arith, c.loop-page.invariant.0.most), omega arith)
 
 pub loop-page-preserved : goal.loop-page-preserved
 loop-page-preserved g c =
     let s = g.C.Chip.flash c.args.chip.now in
-    let bytes = c.read-page-bytes.result in
+    let bytes = c.read_page-bytes.result in
     let at = 512 * c.loop-page.page in
     let long : length bytes ≡ 512 = search rules in
-    let holds = subst (λ t. Holds t at bytes) c.loop-page.invariant.1 c.read-page-bytes.ensures.bytes in
+    let holds = subst (λ t. Holds t at bytes) c.loop-page.invariant.1 c.read_page-bytes.ensures.bytes in
     let joined : at + length bytes ≡ 512 * (c.loop-page.page + 1) = omega arith in
-    let advanced = c.in-ok-cleared.ensures s c.args.blocks c.loop-page.invariant.0 holds (omega arith) in
-    (subst (λ n. Scanned s n c.in-ok-cleared.cleared) joined advanced, c.read-page-bytes.ensures.keeps ∙ c.loop-page.invariant.1)
+    let advanced = c.in_ok-cleared.ensures s c.args.blocks c.loop-page.invariant.0 holds (omega arith) in
+    (subst (λ n. Scanned s n c.in_ok-cleared.cleared) joined advanced, c.read_page-bytes.ensures.keeps ∙ c.loop-page.invariant.1)
 
-pub returns-in-err-cleared : goal.returns-in-err-cleared
-returns-in-err-cleared g c =
+pub returns-in_err-cleared : goal.returns-in_err-cleared
+returns-in_err-cleared g c =
     let s = g.C.Chip.flash c.args.chip.now in
-    let bytes = c.read-page-bytes.result in
+    let bytes = c.read_page-bytes.result in
     let at = 512 * c.loop-page.page in
     let long : length bytes ≡ 512 = search rules in
-    let holds = subst (λ t. Holds t at bytes) c.loop-page.invariant.1 c.read-page-bytes.ensures.bytes in
-    let out = err_from_is_err_and c.from-residual.result c.from-residual.ensures.1 in
+    let holds = subst (λ t. Holds t at bytes) c.loop-page.invariant.1 c.read_page-bytes.ensures.bytes in
+    let out = err_from_is_err_and c.from_residual.result c.from_residual.ensures.1 in
     record {
-      answers = rw (out.1, out.2) (c.in-err-cleared.ensures s c.args.blocks c.loop-page.invariant.0 holds (omega arith));
-      keeps = c.read-page-bytes.ensures.keeps ∙ c.loop-page.invariant.1;
+      answers = rw (out.1, out.2) (c.in_err-cleared.ensures s c.args.blocks c.loop-page.invariant.0 holds (omega arith));
+      keeps = c.read_page-bytes.ensures.keeps ∙ c.loop-page.invariant.1;
     }
 
 pub returns : goal.returns

@@ -12,9 +12,9 @@ returns-then-begin c =
     let given = c.args.given.now in
     let begun = c.if-begin.ensures.began in
     let paged : Paged (count_of self.image.now) span.block.0 span.at span.len (length given) = search rules in
-    let masked = rw (c.begin.ensures.image, c.place-of-base.ensures, begun.plan) at c.clear-bits.ensures in
+    let masked = rw (c.begin.ensures.image, c.place_of-base.ensures, begun.plan) at c.clear_bits.ensures in
     record {
-      answers = rw (c.lost.ensures, begun.on, begun.name) (inr (inr (refl, broke_program self.image.now c.clear-bits.new.row self.on self.name span.block.0 span.at span.len given (length given) self.plan.mask paged c.if-not-self.false (omega arith) masked)));
+      answers = rw (c.lost.ensures, begun.on, begun.name) (inr (inr (refl, broke_program self.image.now c.clear_bits.new.row self.on self.name span.block.0 span.at span.len given (length given) self.plan.mask paged c.if-not-self.false (omega arith) masked)));
       burns = rw c.lost.ensures (record { told = begun.told; name = begun.name; on = begun.on; plan = begun.plan }, masked);
     }
 
@@ -25,8 +25,8 @@ returns c =
     let given = c.args.given.now in
     let begun = c.if-begin.ensures.began in
     let paged : Paged (count_of self.image.now) span.block.0 span.at span.len (length given) = search rules in
-    let masked = rw (c.begin.ensures.image, c.place-of-base.ensures) at c.clear-bits-2.ensures in
+    let masked = rw (c.begin.ensures.image, c.place_of-base.ensures) at c.clear_bits-2.ensures in
     record {
-      answers = rw (begun.on, begun.name) (worked_program self.image.now c.clear-bits-2.new.row self.on self.name span.block.0 span.at span.len given paged c.if-not-self.false masked);
+      answers = rw (begun.on, begun.name) (worked_program self.image.now c.clear_bits-2.new.row self.on self.name span.block.0 span.at span.len given paged c.if-not-self.false masked);
       burns = (record { told = begun.told; name = begun.name; on = begun.on; plan = begun.plan }, masked);
     }

@@ -3,16 +3,16 @@ use Rattle.std.proofs.lemmas.Result.{err_from_is_err_and}
 use Rattle.engine.proofs.Formatting.{never_sizes, accepted, refused}
 use Rattle.engine.proofs.Engine.format.Goals as goal
 
-pub returns-in-err-write : goal.returns-in-err-write
-returns-in-err-write g c =
+pub returns-in_err-write : goal.returns-in_err-write
+returns-in_err-write g c =
     let s = g.C.Chip.flash c.args.self.now.chip in
     let t = g.C.Chip.flash c.write.new.chip in
-    let slice = c.as-slice.ensures in
-    let f = c.in-err-write.field-0.0 in
-    let out = err_from_is_err_and c.from-residual.result c.from-residual.ensures.1 in
+    let slice = c.as_slice.ensures in
+    let f = c.in_err-write.field-0.0 in
+    let out = err_from_is_err_and c.from_residual.result c.from_residual.ensures.1 in
     rw (out.1, out.2)
     record {
-      formats = refused _ _ _ _ _ _ s _ t c.blocks-2.ensures c.in-Some.ensures slice.bytes slice.len c.power-on.ensures f c.in-err-write.ensures.tries;
+      formats = refused _ _ _ _ _ _ s _ t c.blocks-2.ensures c.in-Some.ensures slice.bytes slice.len c.power_on.ensures f c.in_err-write.ensures.tries;
       forgets = λ _. refl;
       untouched = λ e. absurd (never_sizes f e);
     }
@@ -21,10 +21,10 @@ pub returns : goal.returns
 returns g c =
     let s = g.C.Chip.flash c.args.self.now.chip in
     let t = g.C.Chip.flash c.write.new.chip in
-    let slice = c.as-slice.ensures in
-    let done = c.in-ok-write.ensures in
+    let slice = c.as_slice.ensures in
+    let done = c.in_ok-write.ensures in
     record {
-      formats = accepted _ _ _ _ _ _ s _ t c.blocks-2.ensures c.in-Some.ensures slice.bytes slice.len c.power-on.ensures done.bytes done.tries;
+      formats = accepted _ _ _ _ _ _ s _ t c.blocks-2.ensures c.in-Some.ensures slice.bytes slice.len c.power_on.ensures done.bytes done.tries;
       forgets = refl;
       untouched = tt;
     }

@@ -5,29 +5,29 @@ use Rattle.engine.specs.Calls as calls
 use Rattle.engine.proofs.Serving.{puttable, put_refused, put_cut}
 use Rattle.engine.proofs.Engine.put.Goals as goal
 
-pub returns-in-err-started : goal.returns-in-err-started
-returns-in-err-started g c =
-    let out = err_from_is_err_and c.from-residual.result c.from-residual.ensures.1 in
-    let stopped = c.in-err-started.ensures in
+pub returns-in_err-started : goal.returns-in_err-started
+returns-in_err-started g c =
+    let out = err_from_is_err_and c.from_residual.result c.from_residual.ensures.1 in
+    let stopped = c.in_err-started.ensures in
     rw (out.1, out.2) (calls.stopped stopped.0 stopped.1)
 
-pub returns-in-err-batch : goal.returns-in-err-batch
-returns-in-err-batch g c =
-    let out = err_from_is_err_and c.from-residual-in-err-batch.result c.from-residual-in-err-batch.ensures.1 in
-    let other = c.in-err-batch.ensures in
-    rw (out.1, out.2) (calls.other {e = c.in-err-batch.field-0.0} other.0 c.in-ok-started.ensures other.1)
+pub returns-in_err-batch : goal.returns-in_err-batch
+returns-in_err-batch g c =
+    let out = err_from_is_err_and c.from_residual-in_err-batch.result c.from_residual-in_err-batch.ensures.1 in
+    let other = c.in_err-batch.ensures in
+    rw (out.1, out.2) (calls.other {e = c.in_err-batch.field-0.0} other.0 c.in_ok-started.ensures other.1)
 
-pub returns-in-err-check-put : goal.returns-in-err-check-put
-returns-in-err-check-put g c =
-    let out = err_from_is_err_and c.from-residual-in-err-check-put.result c.from-residual-in-err-check-put.ensures.1 in
-    rw (out.1, out.2) (put_refused {e = c.in-err-check-put.field-0.0} c.in-ok-started.ensures c.in-ok-batch.ensures c.in-err-check-put.ensures)
+pub returns-in_err-check_put : goal.returns-in_err-check_put
+returns-in_err-check_put g c =
+    let out = err_from_is_err_and c.from_residual-in_err-check_put.result c.from_residual-in_err-check_put.ensures.1 in
+    rw (out.1, out.2) (put_refused {e = c.in_err-check_put.field-0.0} c.in_ok-started.ensures c.in_ok-batch.ensures c.in_err-check_put.ensures)
 
-pub returns-in-err-put-slot : goal.returns-in-err-put-slot
-returns-in-err-put-slot g c =
-    let out = err_from_is_err_and c.from-residual-in-err-put-slot.result c.from-residual-in-err-put-slot.ensures.1 in
+pub returns-in_err-put_slot : goal.returns-in_err-put_slot
+returns-in_err-put_slot g c =
+    let out = err_from_is_err_and c.from_residual-in_err-put_slot.result c.from_residual-in_err-put_slot.ensures.1 in
     rw (out.1, out.2)
-    (put_cut (puttable c.in-ok-started.ensures c.in-ok-batch.ensures (search rules) c.in-ok-check-put.ensures) c.in-err-put-slot.ensures)
+    (put_cut (puttable c.in_ok-started.ensures c.in_ok-batch.ensures (search rules) c.in_ok-check_put.ensures) c.in_err-put_slot.ensures)
 
 pub returns : goal.returns
 returns g c =
-    calls.done (puttable c.in-ok-started.ensures c.in-ok-batch.ensures (search rules) c.in-ok-check-put.ensures) c.in-ok-put-slot.ensures
+    calls.done (puttable c.in_ok-started.ensures c.in_ok-batch.ensures (search rules) c.in_ok-check_put.ensures) c.in_ok-put_slot.ensures

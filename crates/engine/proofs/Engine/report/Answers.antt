@@ -5,15 +5,15 @@ use Rattle.engine.specs.Calls as calls
 use Rattle.engine.proofs.Serving.{reported}
 use Rattle.engine.proofs.Engine.report.Goals as goal
 
-pub returns-in-err-started : goal.returns-in-err-started
-returns-in-err-started g c =
-    let out = err_from_is_err_and c.from-residual.result c.from-residual.ensures.1 in
-    let stopped = c.in-err-started.ensures in
+pub returns-in_err-started : goal.returns-in_err-started
+returns-in_err-started g c =
+    let out = err_from_is_err_and c.from_residual.result c.from_residual.ensures.1 in
+    let stopped = c.in_err-started.ensures in
     record { reports = rw (out.1, out.2) (calls.stopped stopped.0 stopped.1); keeps = search rules }
 
 pub returns : goal.returns
 returns g c =
     record {
-      reports = reported c.survey-image-survey.result c.in-ok-started.ensures c.survey-image-survey.ensures.survey;
-      keeps = (c.survey-image-survey.ensures.keeps, refl);
+      reports = reported c.survey_image-survey.result c.in_ok-started.ensures c.survey_image-survey.ensures.survey;
+      keeps = (c.survey_image-survey.ensures.keeps, refl);
     }

@@ -5,7 +5,7 @@ use Rattle.label.specs.declared.field.Head.{Head}
 use Rattle.label.specs.Fields.{word_at, tag_at, len_at, body_at, after, Suits, Number}
 use Rattle.label.specs.Read.{HeadAt, FieldAt}
 use Rattle.label.proofs.field.field_at.Goals as goal
-use Rattle.label.proofs.field.field_at.Goals.{then-not-suits-via-then-not-suits, then-not-suits-via-else-not-suits+then-head, in-0, in-5, in-1-to-4, in-default-tag}
+use Rattle.label.proofs.field.field_at.Goals.{then-not-suits-via-then-not-suits, then-not-suits-via-else-not-suits+then-head, in-0, in-5, in-1-to-4, in_default-tag}
 
 -- what the head says of tag and length is so in the page
 there : (page : List ℕ) (at : ℕ) (h : Head) → HeadAt page at (Some h) → Suits h.tag h.len → Suits (tag_at page at) (len_at page at)
@@ -68,7 +68,7 @@ returns c =
             let high : head.tag ≤ 4 = omega arith in
             subst (FieldAt page at) (sym w.result-is) (w.numbered.ensures page (sym is.1) (numbered page at w.number.result head is s low high w.number.ensures))
         | in-5 w ↦ subst (FieldAt page at) (sym w.result-is) (refl, sym is.1 ∙ w.in-5.is, body page at head is)
-        | in-default-tag w ↦
+        | in_default-tag w ↦
             let high : 5 < head.tag = omega arith in
             subst (FieldAt page at) (sym w.result-is) (refl, skipped _ _ s (subst (λ t. 5 < t) is.1 high), body page at head is)
       ],

@@ -7,7 +7,7 @@ use Rattle.rules.proofs.claimed.claimed_slots.Goals as goal
 
 pub returns-in-Some : goal.returns-in-Some
 returns-in-Some g c =
-    let read = c.read-turn-slots.ensures in
+    let read = c.read_turn-slots.ensures in
     let same = c.loop-turn.invariant.0 in
     record {
       count = claimed_some _ _ _ c.loop-turn.turn _ c.in-Some.j (shows_as same read.shows) c.loop-turn.invariant.1 c.in-Some.ensures;
@@ -16,9 +16,9 @@ returns-in-Some g c =
 
 pub loop-turn-preserved : goal.loop-turn-preserved
 loop-turn-preserved g c =
-    let read = c.read-turn-slots.ensures in
+    let read = c.read_turn-slots.ensures in
     let same = c.loop-turn.invariant.0 in
-    (read.keeps ∙ same, claimed_more _ _ _ c.loop-turn.turn _ (shows_as same read.shows) c.loop-turn.invariant.1 c.in-default.ensures)
+    (read.keeps ∙ same, claimed_more _ _ _ c.loop-turn.turn _ (shows_as same read.shows) c.loop-turn.invariant.1 c.in_default.ensures)
 
 pub returns : goal.returns
 returns g c =

@@ -16,9 +16,9 @@ returns-in-Legal g c =
     let j = c.args.j in
     record {
       tells =
-          subst (λ r. Tells (not c.is-legal.result) (Breaks s z k r (7 * c.args.turn + j))) (sym c.in-Legal.is)
-          (illegal_tells s z k c.args.turn slots j c.is-legal.result c.requires.shows c.requires.inside
-          (c.is-legal.ensures ∙ ap (λ i. legal (get_or slots i none).flags) c.from.ensures));
+          subst (λ r. Tells (not c.is_legal.result) (Breaks s z k r (7 * c.args.turn + j))) (sym c.in-Legal.is)
+          (illegal_tells s z k c.args.turn slots j c.is_legal.result c.requires.shows c.requires.inside
+          (c.is_legal.ensures ∙ ap (λ i. legal (get_or slots i none).flags) c.from.ensures));
       keeps = search rules;
     }
 
@@ -31,8 +31,8 @@ returns-in-InRange g c =
     let j = c.args.j in
     record {
       tells =
-          subst (λ r. Tells c.is-beyond.result (Breaks s z k r (7 * c.args.turn + j))) (sym c.in-InRange.is)
-          (beyond_tells s z k c.args.turn slots j c.is-beyond.result c.requires.shows c.requires.inside
-          (subst (λ i. Tells c.is-beyond.result ((numbered (get_or slots i none).flags ≡ true) × (z.sectors ≤ (get_or slots i none).sector.0))) c.from.ensures c.is-beyond.ensures));
+          subst (λ r. Tells c.is_beyond.result (Breaks s z k r (7 * c.args.turn + j))) (sym c.in-InRange.is)
+          (beyond_tells s z k c.args.turn slots j c.is_beyond.result c.requires.shows c.requires.inside
+          (subst (λ i. Tells c.is_beyond.result ((numbered (get_or slots i none).flags ≡ true) × (z.sectors ≤ (get_or slots i none).sector.0))) c.from.ensures c.is_beyond.ensures));
       keeps = search rules;
     }

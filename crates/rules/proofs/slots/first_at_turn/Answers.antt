@@ -16,7 +16,7 @@ pub returns-then-breaks : goal.returns-then-breaks
 returns-then-breaks g c =
     let z = c.args.layout.sizes in
     let k = c.args.layout.cleared in
-    let read = c.read-turn-slots.ensures.keeps in
+    let read = c.read_turn-slots.ensures.keeps in
     let same = c.loop-j.invariant.0 ∙ read in
     let found = c.if-breaks.ensures in
     record {

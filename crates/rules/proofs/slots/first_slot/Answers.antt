@@ -4,14 +4,14 @@ use Rattle.rules.specs.Breaches.{Breaks}
 use Rattle.rules.specs.Firsts.{FirstAtTurn}
 use Rattle.rules.proofs.Going.{first_slot, clear_turn, clear_skip}
 use Rattle.rules.proofs.slots.first_slot.Goals as goal
-use Rattle.rules.proofs.slots.first_slot.Goals.{in-Some+in-default-first-at-turn, in-default}
+use Rattle.rules.proofs.slots.first_slot.Goals.{in-Some+in_default-first_at_turn, in-default}
 
-pub returns-in-Some-first-at-turn : goal.returns-in-Some-first-at-turn
-returns-in-Some-first-at-turn g c =
+pub returns-in-Some-first_at_turn : goal.returns-in-Some-first_at_turn
+returns-in-Some-first_at_turn g c =
     let z = c.args.layout.sizes in
     let k = c.args.layout.cleared in
-    let j = c.in-Some-first-at-turn.j in
-    let found = c.in-Some-first-at-turn.ensures in
+    let j = c.in-Some-first_at_turn.j in
+    let found = c.in-Some-first_at_turn.ensures in
     let same = c.loop-b.invariant.0 in
     record {
       first =
@@ -26,9 +26,9 @@ loop-b-preserved g c =
     let z = c.args.layout.sizes in
     let k = c.args.layout.cleared in
     let same = c.loop-b.invariant.0 in
-    elim c.match-turn-of.branch [
-      | in-Some+in-default-first-at-turn w ↦
-          let none = w.in-default-first-at-turn.ensures in (
+    elim c.match-turn_of.branch [
+      | in-Some+in_default-first_at_turn w ↦
+          let none = w.in_default-first_at_turn.ensures in (
             ap g.C.Chip.flash w.chip-is ∙ none.keeps ∙ same,
             clear_turn z k _ c.loop-b.b w.in-Some.turn c.requires.ready.shaped w.in-Some.ensures
                 (subst (λ s. FirstAtTurn (Breaks s z k c.args.rule) w.in-Some.turn None) same none.first)

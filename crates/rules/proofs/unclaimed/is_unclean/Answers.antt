@@ -8,6 +8,6 @@ pub returns : goal.returns
 returns g c =
     let z = c.args.layout.sizes in
     record {
-      tells = unclean_tells _ z _ c.args.turn c.args.j _ c.is-used.result c.requires.inside (omega (arith, c.requires.count)) (c.chip_block.ensures ∙ ap (chip_block z) c.block-at-turn-block.ensures) c.is-used.ensures.tells;
+      tells = unclean_tells _ z _ c.args.turn c.args.j _ c.is_used.result c.requires.inside (omega (arith, c.requires.count)) (c.chip_block.ensures ∙ ap (chip_block z) c.block_at_turn-block.ensures) c.is_used.ensures.tells;
       keeps = search rules;
     }

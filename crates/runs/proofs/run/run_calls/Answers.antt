@@ -32,8 +32,8 @@ loop-k-preserved g c =
 
 pub returns : goal.returns
 returns g c =
-    let accepts = c.in-ok-format.ensures.formats in
-    let forgets = c.in-ok-format.ensures.forgets in
+    let accepts = c.in_ok-format.ensures.formats in
+    let forgets = c.in_ok-format.ensures.forgets in
     let s = g.C.Chip.flash c.args.engine.now.chip in
     let f = g.C.Chip.flash c.format.new.self.chip in
     let inv = c.loop-k.invariant in

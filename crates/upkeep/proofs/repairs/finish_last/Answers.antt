@@ -6,11 +6,11 @@ pub returns-then-source-eq7 : goal.returns-then-source-eq7
 returns-then-source-eq7 g c =
     let s = g.C.Chip.flash c.args.chip.now in
     rw c.live_front.ensures.keeps
-    (mended_lost s c.args.log c.requires.idle c.requires.some c.requires.copy _ c.live_front.ensures.live _ c.first-of-source.ensures c.if-source-eq7.true)
+    (mended_lost s c.args.log c.requires.idle c.requires.some c.requires.copy _ c.live_front.ensures.live _ c.first_of-source.ensures c.if-source-eq7.true)
 
 pub returns : goal.returns
 returns g c =
     let s = g.C.Chip.flash c.args.chip.now in
     let kept = c.live_front.ensures.keeps in
-    let read = c.read-entry-sector.ensures in
-    mended_finish s c.args.log c.requires.idle c.requires.some c.requires.copy _ c.live_front.ensures.live _ c.first-of-source.ensures _ _ c.if-source-eq7.false (rw kept at read.readable) (rw kept at read.number) (rw kept at read.page) (rw (read.keeps, kept) at c.finish-copy.ensures)
+    let read = c.read_entry-sector.ensures in
+    mended_finish s c.args.log c.requires.idle c.requires.some c.requires.copy _ c.live_front.ensures.live _ c.first_of-source.ensures _ _ c.if-source-eq7.false (rw kept at read.readable) (rw kept at read.number) (rw kept at read.page) (rw (read.keeps, kept) at c.finish_copy.ensures)

@@ -6,13 +6,13 @@ use Rattle.upkeep.proofs.repairs.mend_last.Goals as goal
 pub returns-then-log-eq0 : goal.returns-then-log-eq0
 returns-then-log-eq0 g c = mended_nothing _ c.args.log c.requires.1 c.if-log-eq0.true
 
-pub returns-then-ends-group : goal.returns-then-ends-group
-returns-then-ends-group g c =
+pub returns-then-ends_group : goal.returns-then-ends_group
+returns-then-ends_group g c =
     let s = g.C.Chip.flash c.args.chip.now in
-    rw c.read-flags-flags.ensures.keeps
-    (mended_whole s c.args.log c.requires.1 (omega (arith, c.if-log-eq0.false)) _ c.read-flags-flags.ensures.flags _ c.ends-group.ensures c.if-ends-group.true)
+    rw c.read_flags-flags.ensures.keeps
+    (mended_whole s c.args.log c.requires.1 (omega (arith, c.if-log-eq0.false)) _ c.read_flags-flags.ensures.flags _ c.ends_group.ensures c.if-ends_group.true)
 
 pub returns : goal.returns
 returns g c =
     let s = g.C.Chip.flash c.args.chip.now in
-    mended_drop s c.args.log c.requires.1 (omega (arith, c.if-log-eq0.false)) _ c.read-flags-flags.ensures.flags _ _ c.is-unclosed-copy.ensures c.if-is-unclosed-copy.false c.ends-group.ensures c.if-ends-group.false (rw c.read-flags-flags.ensures.keeps at c.drop-slot.ensures)
+    mended_drop s c.args.log c.requires.1 (omega (arith, c.if-log-eq0.false)) _ c.read_flags-flags.ensures.flags _ _ c.is_unclosed_copy.ensures c.if-is_unclosed_copy.false c.ends_group.ensures c.if-ends_group.false (rw c.read_flags-flags.ensures.keeps at c.drop_slot.ensures)

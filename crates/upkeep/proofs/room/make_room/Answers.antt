@@ -15,19 +15,19 @@ returns-then-log-from g c =
       stands = (inv.stands, inv.idle);
     }
 
-pub returns-in-err-log : goal.returns-in-err-log
-returns-in-err-log g c =
-    let out = err_from_is_err_and c.from-residual.result c.from-residual.ensures.1 in
+pub returns-in_err-log : goal.returns-in_err-log
+returns-in_err-log g c =
+    let out = err_from_is_err_and c.from_residual.result c.from_residual.ensures.1 in
     rw (out.1, out.2)
     record {
-      rooms = goes_cut c.args.slots _ c.args.log _ c.loop-log.log c.loop-log.invariant (omega (arith, c.turns.ensures, c.loop-log-test.true)) (omega (arith, c.from.ensures, c.if-log-from.false)) (g.C.Chip.flash c.reclaim.new.chip) c.in-err-log.ensures.reclaims;
+      rooms = goes_cut c.args.slots _ c.args.log _ c.loop-log.log c.loop-log.invariant (omega (arith, c.turns.ensures, c.loop-log-test.true)) (omega (arith, c.from.ensures, c.if-log-from.false)) (g.C.Chip.flash c.reclaim.new.chip) c.in_err-log.ensures.reclaims;
       stands = tt;
     }
 
 pub loop-log-preserved : goal.loop-log-preserved
 loop-log-preserved g c =
-    let done = c.in-ok-log.ensures in
-    goes_round c.args.slots _ c.args.log _ c.loop-log.log c.loop-log.invariant (omega (arith, c.turns.ensures, c.loop-log-test.true)) (omega (arith, c.from.ensures, c.if-log-from.false)) (g.C.Chip.flash c.reclaim.new.chip) c.in-ok-log.log done.reclaims done.stands
+    let done = c.in_ok-log.ensures in
+    goes_round c.args.slots _ c.args.log _ c.loop-log.log c.loop-log.invariant (omega (arith, c.turns.ensures, c.loop-log-test.true)) (omega (arith, c.from.ensures, c.if-log-from.false)) (g.C.Chip.flash c.reclaim.new.chip) c.in_ok-log.log done.reclaims done.stands
 
 pub returns : goal.returns
 returns g c =

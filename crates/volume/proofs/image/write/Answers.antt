@@ -4,23 +4,23 @@ use Rattle.chip.specs.Plans as plans
 use Rattle.chip.proofs.Performed.{stops, tries_then, tries_less}
 use Rattle.volume.proofs.image.write.Goals as goal
 
-pub returns-in-err-erase-all : goal.returns-in-err-erase-all
-returns-in-err-erase-all g c =
-    let out = err_from_is_err_and c.from-residual.result c.from-residual.ensures.1 in
-    record { tries = rw (out.1, out.2) (tries_less _ c.in-err-erase-all.ensures); bytes = search rules }
+pub returns-in_err-erase_all : goal.returns-in_err-erase_all
+returns-in_err-erase_all g c =
+    let out = err_from_is_err_and c.from_residual.result c.from_residual.ensures.1 in
+    record { tries = rw (out.1, out.2) (tries_less _ c.in_err-erase_all.ensures); bytes = search rules }
 
-pub returns-in-err-program : goal.returns-in-err-program
-returns-in-err-program g c =
+pub returns-in_err-program : goal.returns-in_err-program
+returns-in_err-program g c =
     record {
       tries =
-          tries_then c.in-ok-erase-all.ensures
-          (stops _ c.in-err-program.ensures c.from-residual-in-err-program.ensures.1);
+          tries_then c.in_ok-erase_all.ensures
+          (stops _ c.in_err-program.ensures c.from_residual-in_err-program.ensures.1);
       bytes = search rules;
     }
 
 pub returns : goal.returns
 returns g c =
     record {
-      tries = tries_then c.in-ok-erase-all.ensures (plans.next c.in-ok-program.ensures plans.whole);
+      tries = tries_then c.in_ok-erase_all.ensures (plans.next c.in_ok-program.ensures plans.whole);
       bytes = search rules;
     }

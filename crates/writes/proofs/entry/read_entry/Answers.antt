@@ -17,7 +17,7 @@ returns g c =
     let page : Fetched s b (512 * (p % 7 + 1)) 512 c.fetch-2.new.into = rw (c.page.ensures, c.requires.1, kept) at c.fetch-2.ensures.same in
     let page-bytes : Bytes s b (512 * (p % 7 + 1)) 512 = rw (c.page.ensures, c.requires.1, kept) at c.fetch-2.ensures.bytes in
     record {
-      number = c.from-le-bytes.ensures ∙ number_is s z n p b there c.fetch.new.into number;
+      number = c.from_le_bytes.ensures ∙ number_is s z n p b there c.fetch.new.into number;
       page = page_is s z n p b there c.fetch-2.new.into (search rules) page;
       readable = reads s z n p b there number-bytes page-bytes;
       keeps = c.fetch-2.ensures.keeps ∙ kept;

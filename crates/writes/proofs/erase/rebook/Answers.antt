@@ -4,12 +4,12 @@ use Rattle.chip.proofs.Performed.{stops, performed}
 use Rattle.writes.proofs.Allowing.{ends, a_rebooking}
 use Rattle.writes.proofs.erase.rebook.Goals as goal
 
-pub returns-in-err-erase-oldest : goal.returns-in-err-erase-oldest
-returns-in-err-erase-oldest g c =
+pub returns-in_err-erase_oldest : goal.returns-in_err-erase_oldest
+returns-in_err-erase_oldest g c =
     performed (a_rebooking c.requires.0 c.requires.1.1) c.requires.0.power
-    (stops _ c.in-err-erase-oldest.ensures c.from-residual.ensures.1)
+    (stops _ c.in_err-erase_oldest.ensures c.from_residual.ensures.1)
 
 pub returns : goal.returns
 returns g c =
     performed (a_rebooking c.requires.0 c.requires.1.1) c.requires.0.power
-    (plans.next c.in-ok-erase-oldest.ensures (ends c.clear-bit.result c.clear-bit.ensures))
+    (plans.next c.in_ok-erase_oldest.ensures (ends c.clear_bit.result c.clear_bit.ensures))

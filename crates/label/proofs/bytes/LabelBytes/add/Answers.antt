@@ -4,8 +4,8 @@ use Rattle.std.proofs.lemmas.List.{places}
 use Rattle.std.proofs.lemmas.Slice.{overwrites}
 use Rattle.label.proofs.bytes.LabelBytes.add.Goals as goal
 
-pub invariant-of-self : goal.invariant-of-self
-invariant-of-self c = (search (rules, places), (omega arith, tt))
+pub invariant_of-self : goal.invariant_of-self
+invariant_of-self c = (search (rules, places), (omega arith, tt))
 
 pub returns : goal.returns
 returns c = search (rules, overwrites)

@@ -5,6 +5,6 @@ use Rattle.lookup.proofs.walk.Walk.back.Goals as goal
 
 pub returns : goal.returns
 returns g c = record {
-  steps = stepped _ _ _ c.args.self.now c.next-directory-descriptors.result c.from.result _ c.requires.1 (omega arith) c.next-directory-descriptors.ensures.describes c.from.ensures c.group-counts-counts.ensures;
-  keeps = c.next-directory-descriptors.ensures.keeps;
+  steps = stepped _ _ _ c.args.self.now c.next_directory-descriptors.result c.from.result _ c.requires.1 (omega arith) c.next_directory-descriptors.ensures.describes c.from.ensures c.group_counts-counts.ensures;
+  keeps = c.next_directory-descriptors.ensures.keeps;
 }

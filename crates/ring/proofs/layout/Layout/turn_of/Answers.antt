@@ -4,4 +4,4 @@ use Rattle.ring.proofs.Turning.{comes_late, starts_inside}
 use Rattle.ring.proofs.layout.Layout.turn_of.Goals as goal
 
 pub returns-else-turn-turns : goal.returns-else-turn-turns
-returns-else-turn-turns c = comes_late c.args.self.now.sizes c.args.self.now.cleared c.args.block.0 c.turns-between-turn.result (search rules) (search rules) (search rules) (omega arith)
+returns-else-turn-turns c = comes_late c.args.self.now.sizes c.args.self.now.cleared c.args.block.0 c.turns_between-turn.result (search rules) (search rules) (search rules) (omega arith)
