@@ -37,7 +37,7 @@ def main():
                 continue
             old = open(path, encoding="utf-8").read()
             imported = set()
-            for m in re.finditer(r"^(?:pub )?use [^\n]*?\.\{([^}]*)\}", old, re.M):
+            for m in re.finditer(r"^(?:pub )?use (?![^\n]*\.(?:Goals|Given)\.\{)[^\n]*?\.\{([^}]*)\}", old, re.M):
                 imported |= {w.split(" as ")[-1].strip() for w in m[1].split(",")}
             imported |= set(re.findall(r"\blet ([\w'-]+)", old))
 

@@ -2,7 +2,7 @@
 use Rattle.std.proofs.Common.{sym, ap, ◌∙◌}
 use Rattle.rules.proofs.Scribbling.{scribbled_first, scribbled_not, scribbled_skip}
 use Rattle.rules.proofs.directories.scribbled_block.Goals as goal
-use Rattle.rules.proofs.directories.scribbled_block.Goals.{else-is_some-via-then-is_some+else-is_scribbled, else-is-some-via-else-is-some}
+use Rattle.rules.proofs.directories.scribbled_block.Goals.{else-is_some-via-then-is_some+else-is_scribbled, else-is_some-via-else-is_some}
 
 pub returns-then-is_scribbled : goal.returns-then-is_scribbled
 returns-then-is_scribbled g c =
@@ -20,6 +20,6 @@ loop-b-preserved g c =
       | else-is_some-via-then-is_some+else-is_scribbled w ↦
           let clean = w.if-is_scribbled.ensures in
           (ap g.C.Chip.flash w.chip-is ∙ clean.keeps ∙ same, scribbled_not _ _ c.loop-b.b _ same w.chip_block.ensures clean.tells c.loop-b.invariant.1)
-      | else-is-some-via-else-is-some w ↦
+      | else-is_some-via-else-is_some w ↦
           (ap g.C.Chip.flash w.chip-is ∙ same, scribbled_skip _ _ c.loop-b.b c.turn_of.result c.turn_of.ensures (sym c.is_some.ensures ∙ w.if-is_some.false) c.loop-b.invariant.1)
     ]

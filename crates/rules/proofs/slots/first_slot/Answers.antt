@@ -4,7 +4,7 @@ use Rattle.rules.specs.Breaches.{Breaks}
 use Rattle.rules.specs.Firsts.{FirstAtTurn}
 use Rattle.rules.proofs.Going.{first_slot, clear_turn, clear_skip}
 use Rattle.rules.proofs.slots.first_slot.Goals as goal
-use Rattle.rules.proofs.slots.first_slot.Goals.{in-Some+in_default-first_at_turn, in-default}
+use Rattle.rules.proofs.slots.first_slot.Goals.{in-Some+in_default-first_at_turn, in_default}
 
 pub returns-in-Some-first_at_turn : goal.returns-in-Some-first_at_turn
 returns-in-Some-first_at_turn g c =
@@ -34,5 +34,5 @@ loop-b-preserved g c =
                 (subst (λ s. FirstAtTurn (Breaks s z k c.args.rule) w.in-Some.turn None) same none.first)
                 c.loop-b.invariant.1,
           )
-      | in-default w ↦ (ap g.C.Chip.flash w.chip-is ∙ same, clear_skip z k _ c.loop-b.b w.in-default.ensures c.loop-b.invariant.1)
+      | in_default w ↦ (ap g.C.Chip.flash w.chip-is ∙ same, clear_skip z k _ c.loop-b.b w.in_default.ensures c.loop-b.invariant.1)
     ]

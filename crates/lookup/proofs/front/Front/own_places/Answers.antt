@@ -7,5 +7,5 @@ loop-j-preserved c = (
   simp length-set c.loop-j.invariant.0,
   below_more _ _
       (λ k h. let ne : k ≢ c.loop-j.j = omega arith in rw get_or-set_other (c.loop-j.invariant.1 k h))
-      (let lt : c.loop-j.j < length c.loop-j.own_val = omega arith in rw get_or-set_same c.is_at.ensures),
+      (let lt : c.loop-j.j < length c.loop-j.own = omega arith in rw get_or-set_same c.is_at.ensures),
 )

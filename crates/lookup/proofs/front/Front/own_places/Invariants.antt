@@ -4,4 +4,4 @@ use Rattle.ring.specs.Logs.{points}
 use Rattle.lookup.proofs.front.Front.own_places.Given as goal
 
 abbrev pub invariant-loop-j : goal.invariant-loop-j
-invariant-loop-j l = (length l.own_val ≡ 7) × ((k : ℕ) → k < l.j → get_or l.own_val k false ≡ points (get_or l.self.latest k None) k)
+invariant-loop-j l = (length l.own ≡ 7) × ((k : ℕ) → k < l.j → get_or l.own k false ≡ points (get_or l.self.latest k None) k)
