@@ -1,5 +1,0 @@
-pub mod Masks
-pub mod Clearing
-pub mod Carrying
-pub mod Booking
-pub mod Freeing

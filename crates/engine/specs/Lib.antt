@@ -1,4 +1,0 @@
-pub mod Refusals
-pub mod Formats
-pub mod Memories
-pub mod Calls

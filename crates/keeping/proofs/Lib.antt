@@ -1,9 +1,0 @@
-pub mod Orders
-pub mod Changing
-pub mod Copying
-pub mod Stills
-pub mod Batches
-pub mod Repairing
-pub mod Moving
-pub mod Reclaiming
-pub mod Rooming

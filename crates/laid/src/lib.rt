@@ -1,2 +1,0 @@
-#![tactic(auto)]
-// An image by the log that it carries.

@@ -1,2 +1,0 @@
-#![tactic(auto)]
-// What the programs of a slot leave.

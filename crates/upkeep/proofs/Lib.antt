@@ -1,4 +1,0 @@
-pub mod Mending
-pub mod Moving
-pub mod Repairing
-pub mod Rooming
