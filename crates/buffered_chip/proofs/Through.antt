@@ -1,10 +1,10 @@
 -- A page of ones with some bytes placed in it, stored over a page of a row: what it does to the row is what those bytes
 -- do, since a byte keeps all its ones under FF.
-use Rattle.std.proofs.Common.{◌≡◌, ℕ, ◌+◌, ◌-◌, ◌<◌, ◌≤◌, List, length, get_or, take, replicate, sym, refl, ap, ◌∙◌, subst, ⊎_elim, arith, length-take-le, get_or-take}
+use Rattle.std.proofs.Common.{◌≡◌, ℕ, ◌+◌, ◌-◌, ◌<◌, ◌≤◌, List, length, get_or, take, replicate, sym, ap, ◌∙◌, subst, ⊎_elim, arith, length-take-le, get_or-take}
 use lib.Bits.{bit_and, bit_or, or_zero_r, and_mask}
 use Rattle.std.proofs.lemmas.List.{get_or-replicate}
 use Rattle.std.proofs.lemmas.Bool.{cases_lt}
-use Rattle.rows.specs.Rows.{Bytes, Outside, Placed, Masked}
+use Rattle.rows.specs.Rows.{Bytes, Placed, Masked}
 
 -- a byte under FF
 under_ones : (x : ℕ) → x < 256 → bit_and x 255 ≡ x

@@ -1,5 +1,5 @@
 -- A plan whose steps are allowed, tried on a chip that has power, is performed whole or cut.
-use Rattle.std.proofs.Common.{◌≡◌, ℕ, ◌<◌, Bool, true, false, ◌⊎◌, List, [], ◌∷◌, ◌++◌, length, get_or, IsErrAnd, Ok, Err, Result, sym, refl, ap, ◌∙◌, subst, inl, inr, ⊎_elim, arith}
+use Rattle.std.proofs.Common.{◌≡◌, ℕ, ◌<◌, Bool, true, false, List, [], ◌∷◌, ◌++◌, length, get_or, IsErrAnd, Ok, Err, Result, sym, refl, ap, ◌∙◌, subst, ⊎_elim, arith}
 use Rattle.std.proofs.lemmas.Result.{err_from_is_err_and}
 use Rattle.chip.specs.declared.Home.{Home}
 use Rattle.chip.specs.declared.Fault.{Fault}
@@ -7,7 +7,7 @@ use Rattle.chip.specs.declared.Fault.TheVariants.{Range, NoPower, Cut}
 use Rattle.chip.specs.Faults.{numbers}
 use Rattle.chip.specs.Flash.{Flash}
 use Rattle.chip.specs.Ranges.{Paged}
-use Rattle.chip.specs.Steps.{Step, block, program, erase, Allowed, Worked, Broke, Refuses, Answers, Frame}
+use Rattle.chip.specs.Steps.{Step, block, program, erase, Allowed, Worked, Broke, Answers, Frame}
 use Rattle.chip.specs.Plans as plans
 use Rattle.chip.specs.Plans.{Tries, Performs, AllAllowed}
 

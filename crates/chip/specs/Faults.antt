@@ -1,6 +1,5 @@
 -- The numbers of a chip's refusals: which refusal it is, and the values that come with it.
 use Rattle.std.specs.Prelude.{ℕ, List, [], ◌∷◌}
-use Rattle.chip.specs.declared.Home.{Home}
 use Rattle.chip.specs.declared.Fault.{Fault}
 use Rattle.chip.specs.declared.Fault.TheVariants.{Range, NoPower, Cut}
 

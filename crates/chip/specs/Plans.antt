@@ -1,5 +1,5 @@
 -- A plan is a list of steps that is asked of a chip one after another, until one is refused.
-use Rattle.std.specs.Prelude.{◌≡◌, ℕ, List, [], ◌∷◌, Ok, Err, Result}
+use Rattle.std.specs.Prelude.{List, [], ◌∷◌, Ok, Err, Result}
 use Rattle.chip.specs.declared.Fault.{Fault}
 use Rattle.chip.specs.declared.Fault.TheVariants.{Cut}
 use Rattle.chip.specs.Flash.{Flash}

@@ -1,5 +1,5 @@
 -- The page of a chip that the label stands in.
-use Rattle.std.specs.Prelude.{◌≡◌, ℕ, ◌<◌, true, false, ◌⊎◌, List, length, replicate, slice_index}
+use Rattle.std.specs.Prelude.{◌≡◌, ℕ, ◌<◌, true, false, List, length, replicate, slice_index}
 use Rattle.chip.specs.Flash.{Flash}
 
 -- the bytes of a chip's first page; ones where there is no block, or no power

@@ -1,5 +1,5 @@
 -- An erase in the back half of a joint, as the joint shows it.
-use Rattle.std.proofs.Common.{◌≡◌, ℕ, ◌+◌, ◌-◌, ◌<◌, ◌≤◌, min, true, cond, ltb, ◌⊎◌, List, [], ◌∷◌, Ok, Err, Result, sym, refl, ap, ◌∙◌, subst, inl, inr, ⊎_elim, arith, rules}
+use Rattle.std.proofs.Common.{◌≡◌, ℕ, ◌+◌, ◌-◌, ◌<◌, min, true, [], ◌∷◌, Ok, Err, Result, sym, ap, ◌∙◌, subst, inr, ⊎_elim, arith, rules}
 use Rattle.std.proofs.lemmas.Bool.{cond-false, le-ltb}
 use Rattle.chip.specs.declared.Fault.{Fault}
 use Rattle.chip.specs.declared.Home.{Home}

@@ -1,6 +1,5 @@
 -- The flash that a joint shows: the blocks of one chip, then those of another, up to 65,535.
 use Rattle.std.specs.Prelude.{◌≡◌, ℕ, ◌+◌, ◌-◌, ◌<◌, min, cond, ◌&&◌, nat_lt}
-use Rattle.chip.specs.declared.Block.{Block}
 use Rattle.chip.specs.Flash.{Flash}
 use Rattle.layers.specs.declared.joint.Half.{Half}
 use Rattle.layers.specs.declared.joint.Half.TheVariants.{Front, Back}

@@ -2,9 +2,8 @@
 use Rattle.std.proofs.Common.{◌≡◌, ℕ, ◌+◌, ◌*◌, ◌/◌, ◌<◌, ◌≤◌, min, Bool, true, false, List, length, get_or, sym, refl, ap, ◌∙◌, ⊎_elim, add-zero, arith, le-ltb, lt-ltb}
 use lib.Bits.{bit_and, bit_or, or_zero_r, and_comm}
 use Rattle.std.proofs.lemmas.Bool.{cases_lt}
-use Rattle.chip.specs.Flash.{Flash}
 use Rattle.chip.specs.Ranges.{Within, Paged}
-use Rattle.chip.specs.Steps.{Elsewhere, Between, finished, Programmed, TornProgram, Erased, TornErase, Worked, Broke, Copied, program, erase}
+use Rattle.chip.specs.Steps.{Elsewhere, Between, finished, Programmed, TornProgram, Worked, Broke, Copied, program, erase}
 use Rattle.rows.specs.Rows.{place, count_of, flash_of, Bytes, Same, Outside, Masked, Filled}
 use Rattle.rows.proofs.Ones.{under, over, same}
 

@@ -1,6 +1,6 @@
 -- What a byte has that was programmed and spared some of its ones: no more ones than it had, and each that a whole
 -- program leaves. By induction on the binary digits.
-use Rattle.std.proofs.Common.{◌≡◌, ℕ, zero, suc, ◌+◌, ◌*◌, ◌/◌, ◌%◌, ◌<◌, sym, refl, ap, ◌∙◌, ap₂, mod-lt, div-add-mod', arith}
+use Rattle.std.proofs.Common.{◌≡◌, ℕ, zero, suc, ◌/◌, ◌%◌, ◌<◌, sym, refl, ap, ◌∙◌, ap₂, arith}
 use lib.Arith.{bin_ind}
 use lib.Bits.{bit_and, bit_or, and_shr, and_mod, or_shr, or_mod}
 

@@ -1,8 +1,8 @@
 -- A part of a row that was written over.
-use Rattle.std.proofs.Common.{◌≡◌, ℕ, ◌+◌, ◌-◌, ◌<◌, ◌≤◌, List, length, get_or, sym, ap, ◌∙◌, arith, rules}
+use Rattle.std.proofs.Common.{◌≡◌, ℕ, ◌+◌, ◌-◌, ◌≤◌, List, length, get_or, ap, ◌∙◌, rules}
 use borrow.Rule.Slice.PartMut.{put_mid}
 use Rattle.std.proofs.lemmas.List.{places}
-use Rattle.rows.specs.Rows.{Outside, Placed}
+use Rattle.rows.specs.Rows.{Placed}
 
 pub written : (row : List ℕ) (base n : ℕ) (given part : List ℕ) → length given ≡ n → part ≡ given → base + n ≤ length row → Placed row base given (put_mid base (base + n - base) row part)
 written row base n given part long e h =

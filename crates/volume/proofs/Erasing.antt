@@ -1,9 +1,9 @@
 -- The erases of a format, one block after another.
-use Rattle.std.proofs.Common.{◌≡◌, ℕ, zero, suc, ◌+◌, ◌<◌, ◌≤◌, ◌⊎◌, List, [], ◌∷◌, ◌++◌, Ok, Err, Result, sym, refl, ap, ◌∙◌, subst, inl, inr, ⊎_elim, add-one, arith}
+use Rattle.std.proofs.Common.{◌≡◌, ℕ, zero, suc, ◌+◌, ◌<◌, [], ◌∷◌, ◌++◌, Ok, Err, subst, ⊎_elim, add-one, arith}
 use Rattle.std.proofs.lemmas.Bool.{cases_eq}
 use Rattle.chip.specs.declared.Fault.{Fault}
 use Rattle.chip.specs.Flash.{Flash}
-use Rattle.chip.specs.Steps.{Step, erase, Worked, Answers}
+use Rattle.chip.specs.Steps.{erase, Worked, Answers}
 use Rattle.chip.specs.Plans as plans
 use Rattle.chip.specs.Plans.{Tries}
 use Rattle.chip.proofs.Performed.{tries_then, tries_less}

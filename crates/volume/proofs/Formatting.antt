@@ -1,18 +1,16 @@
 -- What a format leaves on a chip.
-use Rattle.std.proofs.Common.{◌≡◌, ℕ, zero, suc, ◌+◌, ◌<◌, ◌≤◌, true, ◌⊎◌, List, [], ◌∷◌, ◌++◌, length, get_or, take, Ok, Err, Result, sym, refl, ap, ◌∙◌, subst, inl, inr, ⊎_elim, zero-add, arith}
+use Rattle.std.proofs.Common.{◌≡◌, ℕ, zero, suc, ◌<◌, ◌≤◌, List, [], ◌∷◌, length, get_or, take, Ok, Err, Result, sym, refl, ap, ◌∙◌, subst, inr, ⊎_elim, zero-add, arith}
 use lib.Bits.{bit_and, and_comm, and_mask}
 use Rattle.std.proofs.lemmas.Bool.{cases_eq}
-use Rattle.chip.specs.declared.Home.{Home}
 use Rattle.chip.specs.declared.Fault.{Fault}
 use Rattle.chip.specs.declared.Fault.TheVariants as fault
 use Rattle.chip.specs.Flash.{Flash, awake}
-use Rattle.chip.specs.Steps.{Step, program, erase, Worked}
+use Rattle.chip.specs.Steps.{program, erase}
 use Rattle.chip.specs.Plans as plans
 use Rattle.chip.specs.Plans.{Tries, Performs, AllAllowed}
-use Rattle.chip.proofs.Performed.{performed, all_both, performs_parts, performed_frame, performs_on, only_cut}
+use Rattle.chip.proofs.Performed.{performed, all_both, performs_parts, performed_frame, only_cut}
 use Rattle.label.specs.declared.bytes.LabelBytes.{LabelBytes}
 use Rattle.label.specs.Written.{label_bytes}
-use Rattle.volume.specs.declared.refusal.Refusal.{Refusal}
 use Rattle.volume.specs.Refusals.{numbers, converted}
 use Rattle.volume.specs.Formats.{erasing, formatting, Formatted, sizes_on, Takes, Admitted, Accepts, Formats}
 

@@ -1,5 +1,5 @@
 -- What format does: which sizes it takes, its steps in their order, and the image that it leaves.
-use Rattle.std.specs.Prelude.{◌≡◌, ℕ, zero, suc, ◌+◌, ◌-◌, ◌<◌, ◌≤◌, true, ◌⊎◌, List, [], ◌∷◌, ◌++◌, length, take, Some, None, Ok, Err, Option, Result, slice_index}
+use Rattle.std.specs.Prelude.{◌≡◌, ℕ, zero, suc, ◌-◌, ◌<◌, ◌≤◌, true, ◌⊎◌, List, [], ◌∷◌, ◌++◌, length, take, Some, None, Ok, Err, Option, Result, slice_index}
 use Rattle.chip.specs.declared.Home.{Home}
 use Rattle.chip.specs.declared.Fault.TheVariants as fault
 use Rattle.chip.specs.Flash.{Flash, awake}

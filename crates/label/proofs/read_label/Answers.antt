@@ -3,7 +3,7 @@ use Rattle.std.proofs.Common.{◌≡◌, ℕ, List, subst, arith}
 use Rattle.std.proofs.lemmas.Result.{err_from_is_err_and}
 use Rattle.label.specs.declared.Sizes.{Sizes}
 use Rattle.label.specs.declared.found.Found.{Found}
-use Rattle.label.specs.Fields.{place, Before}
+use Rattle.label.specs.Fields.{Before}
 use Rattle.label.specs.Labels.{Sized, States, Blank, Stray, field, stray, sizes}
 use Rattle.label.specs.Found.{Says, Holds}
 use Rattle.label.proofs.Notes.{only}

@@ -1,8 +1,7 @@
 -- A part that is filled is a part with one byte over and over written there.
-use Rattle.std.proofs.Common.{◌≡◌, ℕ, ◌+◌, ◌-◌, ◌≤◌, drop, replicate, ap, ◌∙◌, arith, length-drop, length-take-le}
+use Rattle.std.proofs.Common.{◌≡◌, ◌+◌, ◌-◌, drop, replicate, ap, ◌∙◌, arith, length-drop, length-take-le}
 use lib.ListN.{length-replicate}
 use Rattle.std.proofs.lemmas.List.{get_or-replicate}
-use Rattle.rows.specs.Rows.{Outside}
 use Rattle.rows.proofs.Written.{written}
 use Rattle.rows.proofs.fill_range.Goals as goal
 

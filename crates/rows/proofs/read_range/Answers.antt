@@ -1,5 +1,5 @@
 -- The bytes that were copied are those of the range.
-use Rattle.std.proofs.Common.{◌≡◌, ◌+◌, length, get_or, ap, ◌∙◌, arith, rules}
+use Rattle.std.proofs.Common.{◌+◌, length, get_or, ap, ◌∙◌, arith, rules}
 use Rattle.std.proofs.lemmas.List.Edits.{get_or-between}
 use Rattle.rows.specs.Rows.{Same}
 use Rattle.rows.proofs.Flashes.{copied_is}

@@ -1,4 +1,3 @@
-use Rattle.script.specs.Script.{Lacks}
 use Rattle.std.proofs.Common.{◌≡◌, ℕ, ◌<◌, get_or}
 use Rattle.script.proofs.cut.Given as goal
 

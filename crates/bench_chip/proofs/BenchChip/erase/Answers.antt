@@ -1,5 +1,5 @@
 -- An erase that was cut, and one that was finished.
-use Rattle.std.proofs.Common.{◌≡◌, ◌<◌, refl, inr, add-zero, arith, rules}
+use Rattle.std.proofs.Common.{◌<◌, refl, inr, add-zero, arith, rules}
 use Rattle.rows.specs.Rows.{count_of}
 use Rattle.rows.proofs.Flashes.{worked_erase, broke_erase}
 use Rattle.bench_chip.proofs.BenchChip.erase.Goals as goal

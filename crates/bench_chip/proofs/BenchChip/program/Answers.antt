@@ -1,5 +1,5 @@
 -- A program that was cut, and one that was finished.
-use Rattle.std.proofs.Common.{◌≡◌, length, refl, inr, arith, rules}
+use Rattle.std.proofs.Common.{length, refl, inr, arith, rules}
 use Rattle.chip.specs.Ranges.{Paged}
 use Rattle.rows.specs.Rows.{count_of}
 use Rattle.rows.proofs.Flashes.{worked_program, broke_program}

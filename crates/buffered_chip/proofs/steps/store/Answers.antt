@@ -1,7 +1,7 @@
 -- A program that was cut, and one that was finished.
-use Rattle.std.proofs.Common.{◌≡◌, ℕ, ◌+◌, ◌*◌, ◌≤◌, min, true, false, eqb, length, replicate, refl, ap, ◌∙◌, inr, arith, rules}
+use Rattle.std.proofs.Common.{◌≡◌, ◌+◌, ◌*◌, min, true, false, eqb, length, replicate, refl, ap, ◌∙◌, inr, arith, rules}
 use Rattle.chip.specs.Ranges.{Paged}
-use Rattle.rows.specs.Rows.{count_of, Masked}
+use Rattle.rows.specs.Rows.{count_of}
 use Rattle.rows.proofs.Flashes.{worked_program, broke_program}
 use Rattle.buffered_chip.proofs.Through.{first}
 use Rattle.buffered_chip.proofs.steps.store.Goals as goal

@@ -2,7 +2,6 @@
 use Rattle.std.proofs.Common.{◌≡◌, ◌<◌, min, true, false, eqb, refl, inr, add-zero, arith, rules}
 use Rattle.rows.specs.Rows.{count_of}
 use Rattle.rows.proofs.Flashes.{worked_erase, broke_erase}
-use Rattle.buffered_chip.specs.Plans.{reached}
 use Rattle.buffered_chip.proofs.steps.wipe.Goals as goal
 
 pub returns-then-status-eq1 : goal.returns-then-status-eq1

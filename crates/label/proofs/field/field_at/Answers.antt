@@ -2,7 +2,7 @@
 use Rattle.std.proofs.Common.{◌≡◌, ℕ, ◌+◌, ◌<◌, ◌≤◌, List, length, get_or, take, drop, Some, sym, refl, ap, ◌∙◌, subst, arith, length-drop}
 use Rattle.std.proofs.lemmas.List.{get_or-drop, get_or-take}
 use Rattle.label.specs.declared.field.Head.{Head}
-use Rattle.label.specs.Fields.{word_at, tag_at, len_at, body_at, after, Suits, Number}
+use Rattle.label.specs.Fields.{word_at, tag_at, len_at, body_at, Suits, Number}
 use Rattle.label.specs.Read.{HeadAt, FieldAt}
 use Rattle.label.proofs.field.field_at.Goals as goal
 use Rattle.label.proofs.field.field_at.Goals.{then-not-suits-via-then-not-suits, then-not-suits-via-else-not-suits+then-head, in-0, in-5, in-1-to-4, in_default-tag}

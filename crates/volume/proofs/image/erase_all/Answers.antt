@@ -1,4 +1,4 @@
-use Rattle.std.proofs.Common.{arith, rules}
+use Rattle.std.proofs.Common.{arith}
 use Rattle.std.proofs.lemmas.Result.{err_from_is_err_and}
 use Rattle.volume.proofs.Erasing.{erase_none, erase_more, erase_stops, erase_all}
 use Rattle.volume.proofs.image.erase_all.Goals as goal
