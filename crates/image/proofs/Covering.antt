@@ -1,5 +1,5 @@
 -- A position covers another where its number and its page do.
-use Rattle.std.proofs.Common.{◌≡◌, ℕ, ◌+◌, ◌*◌, ◌%◌, ◌<◌, Bool, true, false, sym, refl, subst, arith}
+use Rattle.std.proofs.Common.{◌≡◌, ℕ, ◌+◌, ◌*◌, ◌%◌, Bool, true, false, sym, subst, arith}
 use Rattle.chip.specs.Flash.{Flash}
 use Rattle.chip.specs.Ranges.{Tells}
 use Rattle.label.specs.declared.Sizes.{Sizes}

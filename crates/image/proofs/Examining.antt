@@ -1,5 +1,5 @@
 -- From the parts of an examination to its answer.
-use Rattle.std.proofs.Common.{◌≡◌, ℕ, ◌+◌, ◌*◌, ◌<◌, ◌≤◌, true, ◌⊎◌, [], ◌∷◌, Ok, Err, sym, refl, ap, ◌∙◌, subst, inl, inr, arith}
+use Rattle.std.proofs.Common.{◌≡◌, ℕ, ◌≤◌, true, Err, refl, subst, inl, inr, arith}
 use Rattle.chip.specs.Flash.{Flash}
 use Rattle.label.specs.declared.Sizes.{Sizes}
 use Rattle.label.specs.declared.LabelFault.{LabelFault}
@@ -15,7 +15,7 @@ use Rattle.image.specs.declared.verdict.Log.{Log}
 use Rattle.image.specs.Flaws.{label_flaw, rule_flaw}
 use Rattle.image.specs.Fronts.{front_page, LabelledBy}
 use Rattle.image.specs.Checks.{KeptFrom, Lowest}
-use Rattle.image.specs.Examined.{Sound, Unsound, Examined}
+use Rattle.image.specs.Examined.{Sound, Examined}
 use Rattle.image.specs.Surveys.{Standing}
 use Rattle.lookup.proofs.Backward.{claimed_most}
 

@@ -1,16 +1,15 @@
 -- The rules about the last claimed slot: what breaks each, and where.
-use Rattle.std.proofs.Common.{◌≡◌, ℕ, suc, ◌+◌, ◌-◌, ◌<◌, ◌≤◌, Bool, true, false, cond, ◌⊎◌, List, get_or, sym, refl, ap, ◌∙◌, subst, ⊎_elim, arith}
+use Rattle.std.proofs.Common.{◌≡◌, ℕ, ◌+◌, ◌<◌, ◌≤◌, Bool, true, false, cond, List, get_or, sym, ap, ◌∙◌, subst, ⊎_elim, arith}
 use Rattle.std.proofs.lemmas.Bool.{both_ways, or_cases, eqb-true}
 use Rattle.chip.specs.Flash.{Flash}
 use Rattle.label.specs.declared.Sizes.{Sizes}
-use Rattle.ring.specs.Searches.{least, count, Least}
+use Rattle.ring.specs.Searches.{least, count}
 use Rattle.ring.specs.Tally.{begun}
 use Rattle.ring.specs.Places.{positions, slot_at, flags_at}
-use Rattle.ring.specs.Logs.{ends, unclosed_copy, claimed, unclaimed, log, is_live}
+use Rattle.ring.specs.Logs.{ends, unclosed_copy, claimed, unclaimed}
 use Rattle.ring.specs.Rules as rules
 use Rattle.ring.specs.Rules.{At, LastIs, Unended, Crowded, Astray, Copying, Breach, Kept, live_front, first_live}
-use Rattle.ring.proofs.Searching.{least_is, least_unique, count_same, least_same}
-use Rattle.image.specs.declared.flaw.Broken.{Broken}
+use Rattle.ring.proofs.Searching.{count_same, least_same}
 use Rattle.lookup.specs.Answers.{LiveFront}
 use Rattle.image.proofs.Breaches.{of_group, of_room, of_copy}
 use Rattle.image.specs.Checks.{KeptFrom, Lowest}

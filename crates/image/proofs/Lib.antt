@@ -5,3 +5,5 @@ pub mod Breaches
 pub mod Lasting
 pub mod Joining
 pub mod Examining
+pub mod Showing
+pub mod Bounds

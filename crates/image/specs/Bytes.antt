@@ -1,6 +1,5 @@
 -- Bytes as they are read, and which of them cover others.
-use Rattle.std.specs.Prelude.{◌≡◌, ℕ, ◌+◌, ◌<◌, List, length, bit_and}
-use Rattle.chip.specs.Flash.{Flash}
+use Rattle.std.specs.Prelude.{◌≡◌, ℕ, ◌<◌, bit_and}
 
 -- each of the first n bytes of `upper` shows a 1 wherever that of `lower` does
 abbrev pub Over : (ℕ → ℕ) → (ℕ → ℕ) → ℕ → Type 0

@@ -1,5 +1,5 @@
 -- What an examination says of a chip.
-use Rattle.std.specs.Prelude.{◌≡◌, ℕ, ◌<◌, ◌≤◌, true, false, ◌⊎◌, List, [], ◌∷◌, Ok, Err, Result}
+use Rattle.std.specs.Prelude.{◌≡◌, ℕ, true, false, ◌⊎◌, List, [], ◌∷◌, Ok, Err, Result}
 use Rattle.chip.specs.Flash.{Flash}
 use Rattle.label.specs.declared.Sizes.{Sizes}
 use Rattle.label.specs.Labels.{Faulty}
@@ -13,7 +13,7 @@ use Rattle.image.specs.declared.flaw.Flaw.{Flaw}
 use Rattle.image.specs.declared.flaw.Flaw.TheVariants.{NoPower, Label, Rule}
 use Rattle.image.specs.declared.verdict.Log.{Log}
 use Rattle.image.specs.Fronts.{front_page, LabelledBy}
-use Rattle.image.specs.Checks.{KeptFrom, Lowest, Checked}
+use Rattle.image.specs.Checks.{KeptFrom, Lowest}
 
 -- a flaw's number, and the values that come with it: 10, a label's fault, with its byte; 11, a broken rule, with rule
 -- and place; 15, no power

@@ -3,3 +3,4 @@ pub mod Stepping
 pub mod Fronting
 pub mod Words
 pub mod Counting
+pub mod Claimed

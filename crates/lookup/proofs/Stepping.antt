@@ -5,9 +5,9 @@ use Rattle.label.specs.declared.Sizes.{Sizes}
 use Rattle.ring.specs.declared.directory.Descriptor.{Descriptor}
 use Rattle.ring.specs.Places.{chip_block, block_at, flags_at, sector_at}
 use Rattle.ring.specs.Directories.{Describes, none}
-use Rattle.ring.specs.Logs.{closes, ends, counts, claimed, log}
+use Rattle.ring.specs.Logs.{closes, ends, counts, log_of}
 use Rattle.lookup.specs.declared.walk.Walk.{Walk}
-use Rattle.lookup.specs.Walks.{Walking, Stepped}
+use Rattle.lookup.specs.Walks.{WalkingAmong, SteppedAmong}
 use Rattle.lookup.proofs.Backward.{counts_step}
 
 -- a directory gives the flags and the sector of a position of its block
@@ -17,18 +17,19 @@ flags_there s z c p ds h = h.flags (p % 7) (omega arith) ∙ ap (s.byte (chip_bl
 sector_there : (s : Flash) (z : Sizes) (c p : ℕ) (ds : List Descriptor) → Describes s (chip_block z (block_at z c p)) ds → (get_or ds (p % 7) none).sector.0 ≡ sector_at s z c p
 sector_there s z c p ds h = h.sector (p % 7) (omega arith)
 
-pub stepped : (s : Flash) (z : Sizes) (c : ℕ) (w : Walk) (ds : List Descriptor) (k : ℕ) (b : Bool) → Walking s z c w → 0 < w.position → Describes s (chip_block z (block_at z c (w.position - 1))) ds → k ≡ (w.position - 1) % 7 → b ≡ cond (ends (get_or ds k none).flags) (closes (get_or ds k none).flags) w.counting → Stepped s z c w (Some record { position = w.position - 1; sector = (get_or ds k none).sector; counts = b }) record { position = w.position - 1; claimed = w.claimed; counting = b; descriptors = ds }
+pub stepped : (s : Flash) (z : Sizes) (c : ℕ) (w : Walk) (ds : List Descriptor) (k : ℕ) (b : Bool) → WalkingAmong s z c w → 0 < w.position → Describes s (chip_block z (block_at z c (w.position - 1))) ds → k ≡ (w.position - 1) % 7 → b ≡ cond (ends (get_or ds k none).flags) (closes (get_or ds k none).flags) w.counting → SteppedAmong s z c w.claimed w (Some record { position = w.position - 1; sector = (get_or ds k none).sector; counts = b }) record { position = w.position - 1; claimed = w.claimed; counting = b; descriptors = ds }
 stepped s z c w ds k b h some d at e =
     let p = w.position - 1 in
-    let lt : p < claimed s z c = omega (arith, h.inside, h.all) in
+    let lt : p < w.claimed = omega (arith, h.inside) in
     let next : p + 1 ≡ w.position = omega arith in
     let flags : (get_or ds k none).flags ≡ flags_at s z c p = ap (λ i. (get_or ds i none).flags) at ∙ flags_there s z c p ds d in
     let sector : (get_or ds k none).sector.0 ≡ sector_at s z c p = ap (λ i. (get_or ds i none).sector.0) at ∙ sector_there s z c p ds d in
-    let group : b ≡ counts (drop p (log s z c)) =
-    e ∙ ap₂ (λ f t. cond (ends f) (closes f) t) flags (h.group ∙ ap (λ i. counts (drop i (log s z c))) (sym next))
-    ∙ sym (counts_step s z c p lt) in (
+    let group : b ≡ counts (drop p (log_of s z c w.claimed)) =
+    e ∙ ap₂ (λ f t. cond (ends f) (closes f) t) flags (h.group ∙ ap (λ i. counts (drop i (log_of s z c w.claimed))) (sym next))
+    ∙ sym (counts_step s z c w.claimed p lt) in (
       next,
       refl,
+      refl,
       record { inside = lt; number = sector; group = group },
-      record { all = h.all; inside = omega (arith, h.inside); group = group; held = λ _ _. d },
+      record { bound = h.bound; inside = omega (arith, h.inside); group = group; held = λ _ _. d },
     )

@@ -1,12 +1,12 @@
 // The walk over the log from its newest slot back, which reads each directory once.
-ghost use Rattle.std.specs.Prelude.{◌≡◌, ℕ, ◌-◌, ◌<◌};
+ghost use Rattle.std.specs.Prelude.{◌≡◌, ℕ, ◌-◌, ◌<◌, ◌≤◌};
 ghost use Rattle.chip.specs.Flash.{Flash};
 ghost use Rattle.label.specs.declared.Sizes.{Sizes};
 ghost use Rattle.ring.specs.Directories.{Describes};
 ghost use Rattle.ring.specs.Logs.{claimed as claimed_of};
 ghost use Rattle.ring.specs.Places.{block_at, chip_block, positions, slot_at};
 ghost use Rattle.ring.specs.Turns.{Ready, Shaped};
-ghost use Rattle.lookup.specs.Walks.{Walking, Stepped, hits};
+ghost use Rattle.lookup.specs.Walks.{Walking, WalkingAmong, Stepped, SteppedAmong, hits};
 
 use crate::flags::group_counts;
 use chip::Chip;
@@ -68,7 +68,9 @@ impl Walk {
     // A walk before its first step.
     pub fn from_newest(claimed: u16) -> Walk
         ensures place { result.position ≡ claimed }
+        ensures all { result.claimed ≡ claimed }
         ensures walks { (s : Flash) (z : Sizes) (c : ℕ) → claimed ≡ claimed_of s z c → Walking s z c result }
+        ensures among { (s : Flash) (z : Sizes) (c : ℕ) → claimed ≤ positions z c → WalkingAmong s z c result }
     {
         let blank = Descriptor {
             flags: 0,
@@ -84,7 +86,7 @@ impl Walk {
 
     // The directory of the block that holds the next slot back: the one at hand, unless the walk comes to a new block.
     fn next_directory<C: Chip>(&self, chip: &mut C, layout: Layout) -> [Descriptor; 7]
-        requires { (Ready (C.flash chip.old) layout.sizes layout.cleared) × ((Walking (C.flash chip.old) layout.sizes layout.cleared self.now) × (0 < self.now.position)) }
+        requires { (Ready (C.flash chip.old) layout.sizes layout.cleared) × ((WalkingAmong (C.flash chip.old) layout.sizes layout.cleared self.now) × (0 < self.now.position)) }
         ensures describes { Describes (C.flash chip.old) (chip_block layout.sizes (block_at layout.sizes layout.cleared (self.now.position - 1))) result }
         ensures keeps { C.flash chip.new ≡ C.flash chip.old }
     {
@@ -97,8 +99,9 @@ impl Walk {
 
     // Goes one slot further back, until none is left.
     pub fn back<C: Chip>(&mut self, chip: &mut C, layout: Layout) -> Option<Visit>
-        requires { (Ready (C.flash chip.old) layout.sizes layout.cleared) × (Walking (C.flash chip.old) layout.sizes layout.cleared self.old) }
-        ensures steps { Stepped (C.flash chip.old) layout.sizes layout.cleared self.old result self.new }
+        requires { (Ready (C.flash chip.old) layout.sizes layout.cleared) × (WalkingAmong (C.flash chip.old) layout.sizes layout.cleared self.old) }
+        ensures steps { Walking (C.flash chip.old) layout.sizes layout.cleared self.old → Stepped (C.flash chip.old) layout.sizes layout.cleared self.old result self.new }
+        ensures among { SteppedAmong (C.flash chip.old) layout.sizes layout.cleared self.old.claimed self.old result self.new }
         ensures keeps { C.flash chip.new ≡ C.flash chip.old }
     {
         if self.position == 0 {

@@ -1,5 +1,5 @@
 -- The log: the claimed slots in order of position, what each sector holds, and which slots are live.
-use Rattle.std.specs.Prelude.{ℕ, suc, ◌-◌, Bool, true, false, cond, ◌&&◌, ◌||◌, List, [], ◌∷◌, Some, None, Option, ◌==◌, nat_eq, slice_index_or}
+use Rattle.std.specs.Prelude.{ℕ, suc, ◌-◌, Bool, false, cond, ◌&&◌, ◌||◌, List, [], ◌∷◌, Some, None, Option, ◌==◌, nat_eq, slice_index_or}
 use Rattle.chip.specs.Flash.{Flash}
 use Rattle.label.specs.declared.Sizes.{Sizes}
 use Rattle.ring.specs.Searches.{least, row}
@@ -72,3 +72,7 @@ entry_at s z c p = record { flags = flags_at s z c p; sector = sector_at s z c p
 
 abbrev pub log : Flash → Sizes → ℕ → List Entry
 log s z c = row (entry_at s z c) (claimed s z c)
+
+-- the first m slots of an image, as a log
+abbrev pub log_of : Flash → Sizes → ℕ → ℕ → List Entry
+log_of s z c m = row (entry_at s z c) m

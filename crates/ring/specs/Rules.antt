@@ -1,12 +1,12 @@
 -- The nine rules that an image keeps, each by what breaks it, with the place of the breach. The block that is being
 -- erased has no position, so it is exempt.
-use Rattle.std.specs.Prelude.{◌≡◌, ℕ, suc, ◌+◌, ◌-◌, ◌*◌, ◌/◌, ◌%◌, ◌<◌, ◌≤◌, Bool, true, false, cond, ◌||◌, ◌⊎◌, List, ◌==◌, ◌≢◌, bit_and}
+use Rattle.std.specs.Prelude.{◌≡◌, ℕ, suc, ◌+◌, ◌-◌, ◌/◌, ◌%◌, ◌<◌, ◌≤◌, Bool, true, false, cond, ◌||◌, ◌⊎◌, ◌==◌, ◌≢◌, bit_and}
 use Rattle.chip.specs.Flash.{Flash}
 use Rattle.label.specs.declared.Sizes.{Sizes}
 use Rattle.ring.specs.Searches.{least, count}
 use Rattle.ring.specs.Tally.{tally_bit, tally_bits, begun}
 use Rattle.ring.specs.Places.{positions, block_at, slot_at, chip_block, descriptor_byte, flags_at, sector_at, page_byte}
-use Rattle.ring.specs.Logs.{ends, closes, is_copy, unclosed_copy, claimed, unclaimed, log, is_live}
+use Rattle.ring.specs.Logs.{ends, is_copy, unclosed_copy, claimed, unclaimed, log, is_live}
 
 -- legal flags: FF; 7F, 5F, 4F, 77, 57 of puts; BF, 9F, 8F of copies
 abbrev pub legal : ℕ → Bool

@@ -1,47 +1,14 @@
--- Each slot is noted where it is the last for a position; behind the first slot that says which positions are live.
-use Rattle.std.proofs.Common.{◌≡◌, sym, refl, ◌∙◌, subst}
-use Rattle.ring.specs.Places.{chip_block, block_at}
-use Rattle.ring.specs.Directories.{Describes}
-use Rattle.ring.specs.Logs.{claimed}
-use Rattle.lookup.specs.Fronts.{sector_of, Noted}
-use Rattle.lookup.proofs.Backward.{last_none, same_step}
-use Rattle.lookup.proofs.Fronting.{Latest, noted_back, front_is}
+-- What is live among the claimed slots is live in the log.
+use Rattle.std.proofs.Common.{subst}
+use Rattle.lookup.specs.Answers.{LiveFrontAmong}
+use Rattle.lookup.proofs.Claimed.{claimed_few}
 use Rattle.lookup.proofs.live_front.Goals as goal
 
-pub loop-visit-init : goal.loop-visit-init
-loop-visit-init g c =
-    let s = g.C.Chip.flash c.directory_of.new.chip in
-    let z = c.args.layout.sizes in
-    let b = c.args.layout.cleared in
-    let all = subst (λ f. c.args.claimed ≡ claimed f z b) (sym c.directory_of.ensures.keeps) c.requires.1 in
-    (refl, c.from_newest-walk.ensures.walks s z b all, refl, λ j lt. c.before-front.ensures.1 j lt ∙ sym (last_none s z b (sector_of c.before-front.result.descriptors j) _ (c.from_newest-walk.ensures.place ∙ all)))
-
-pub loop-visit-preserved : goal.loop-visit-preserved
-loop-visit-preserved g c =
-    let s = g.C.Chip.flash c.directory_of.new.chip in
-    let z = c.args.layout.sizes in
-    let b = c.args.layout.cleared in
-    let v = c.in-Some.visit in
-    let inv = c.loop-visit.invariant in
-    let step = same_step _ s z b c.loop-visit.walk c.back.new.self v inv.0 c.in-Some.ensures.steps in
-    let noted = subst (λ ds. Noted ds c.loop-visit.front.latest v c.note.new.self.latest) inv.2 c.note.ensures.notes in (
-      c.in-Some.ensures.keeps ∙ inv.0,
-      step.3,
-      c.note.ensures.same ∙ inv.2,
-      noted_back s z b c.before-front.result.descriptors c.loop-visit.front.latest c.note.new.self.latest c.loop-visit.walk c.back.new.self v step noted inv.3,
-    )
+pub live_front_among-requires : goal.live_front_among-requires
+live_front_among-requires g c = (c.requires.0, claimed_few (g.C.Chip.flash c.args.chip.now) c.args.layout.sizes c.args.layout.cleared c.args.claimed c.requires.1)
 
 pub returns : goal.returns
-returns g c =
-    let s = g.C.Chip.flash c.args.chip.now in
-    let z = c.args.layout.sizes in
-    let b = c.args.layout.cleared in
-    let front = c.before-front.result.descriptors in
-    let walked = c.loop-visit.walk.position in
-    let inv = c.loop-visit.invariant in
-    let latest = subst (λ f. Latest f z b front walked c.loop-visit.front.latest) c.directory_of.ensures.keeps inv.3 in
-    let described = subst (Describes s (chip_block z (block_at z b 0))) (sym c.before-front.ensures.0) c.directory_of.ensures.describes in
-    record {
-      live = front_is s z b walked front c.loop-visit.front.latest c.own_places.result c.in_default.ensures.steps described latest c.own_places.ensures;
-      keeps = c.in_default.ensures.keeps ∙ inv.0 ∙ c.directory_of.ensures.keeps;
-    }
+returns g c = record {
+  live = subst (λ m. LiveFrontAmong (g.C.Chip.flash c.args.chip.now) c.args.layout.sizes c.args.layout.cleared m c.live_front_among.result) c.requires.1 c.live_front_among.ensures.live;
+  keeps = c.live_front_among.ensures.keeps;
+}

@@ -1,42 +1,12 @@
--- The first hit from the back is the live slot; a slot that is no hit changes nothing.
-use Rattle.std.proofs.Common.{sym, refl, ◌∙◌, arith}
-use Rattle.lookup.proofs.Backward.{last_none, hit_is, miss_is, same_step, claimed_most}
+-- What is found among the claimed slots is found in the log.
+use Rattle.lookup.proofs.Claimed.{claimed_few, claimed_found}
 use Rattle.lookup.proofs.live_slot.Goals as goal
 
-pub loop-visit-init : goal.loop-visit-init
-loop-visit-init g c =
-    let s = g.C.Chip.flash c.args.chip.now in
-    let z = c.args.layout.sizes in
-    let b = c.args.layout.cleared in
-    (refl, c.from_newest-walk.ensures.walks s z b c.requires.1, last_none s z b c.args.sector.0 _ (c.from_newest-walk.ensures.place ∙ c.requires.1))
+pub live_slot_among-requires : goal.live_slot_among-requires
+live_slot_among-requires g c = (c.requires.0, claimed_few (g.C.Chip.flash c.args.chip.now) c.args.layout.sizes c.args.layout.cleared c.args.claimed c.requires.1)
 
-pub slot_at-requires : goal.slot_at-requires
-slot_at-requires g c =
-    let s = g.C.Chip.flash c.loop-visit.chip in
-    (c.requires.0.shaped, omega (arith, c.in-Some.ensures.steps.2.inside, claimed_most s c.args.layout.sizes c.args.layout.cleared))
-
-pub returns-then-hits : goal.returns-then-hits
-returns-then-hits g c =
-    let s = g.C.Chip.flash c.args.chip.now in
-    let z = c.args.layout.sizes in
-    let b = c.args.layout.cleared in
-    let v = c.in-Some.visit in
-    let inv = c.loop-visit.invariant in
-    let step = same_step _ s z b c.loop-visit.walk c.back.new.self v inv.0 c.in-Some.ensures.steps in
-    record {
-      found = (v.position, hit_is s z b c.args.sector.0 c.loop-visit.walk c.back.new.self v step inv.2 (sym c.hits.ensures ∙ c.if-hits.true), c.slot_at.ensures);
-      keeps = c.in-Some.ensures.keeps ∙ inv.0;
-    }
-
-pub loop-visit-preserved : goal.loop-visit-preserved
-loop-visit-preserved g c =
-    let s = g.C.Chip.flash c.args.chip.now in
-    let z = c.args.layout.sizes in
-    let b = c.args.layout.cleared in
-    let v = c.in-Some.visit in
-    let inv = c.loop-visit.invariant in
-    let step = same_step _ s z b c.loop-visit.walk c.back.new.self v inv.0 c.in-Some.ensures.steps in (
-      c.in-Some.ensures.keeps ∙ inv.0,
-      step.3,
-      miss_is s z b c.args.sector.0 c.loop-visit.walk c.back.new.self v step inv.2 (sym c.hits.ensures ∙ c.if-hits.false),
-    )
+pub returns : goal.returns
+returns g c = record {
+  found = claimed_found (g.C.Chip.flash c.args.chip.now) c.args.layout.sizes c.args.layout.cleared c.args.claimed c.args.sector.0 _ c.requires.1 c.live_slot_among.ensures.found;
+  keeps = c.live_slot_among.ensures.keeps;
+}

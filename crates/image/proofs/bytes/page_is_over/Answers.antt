@@ -1,5 +1,5 @@
 -- A page is over where all its chunks are.
-use Rattle.std.proofs.Common.{◌∙◌, arith, rules}
+use Rattle.std.proofs.Common.{◌∙◌, arith}
 use Rattle.image.proofs.Chunks.{above_more, above_part}
 use Rattle.image.proofs.bytes.page_is_over.Goals as goal
 

@@ -1,5 +1,5 @@
 -- The number and the page are compared, and nothing else.
-use Rattle.std.proofs.Common.{◌≡◌, ◌+◌, ◌*◌, ◌∙◌, subst}
+use Rattle.std.proofs.Common.{◌+◌, ◌*◌, ◌∙◌, subst}
 use Rattle.chip.specs.Flash.{Flash}
 use Rattle.chip.specs.Ranges.{Tells}
 use Rattle.image.proofs.Chunks.{Above}

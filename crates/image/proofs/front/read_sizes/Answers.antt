@@ -1,5 +1,5 @@
 -- The label's verdict on the page is one on the chip.
-use Rattle.std.proofs.Common.{◌≡◌, ap, ◌∙◌}
+use Rattle.std.proofs.Common.{ap, ◌∙◌}
 use Rattle.std.proofs.lemmas.Result.{err_from_is_err_and}
 use Rattle.chip.specs.Flash.{Flash}
 use Rattle.image.proofs.Fronting.{good_there, faulty_there}

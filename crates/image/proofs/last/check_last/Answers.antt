@@ -1,10 +1,10 @@
 -- The last claimed slot, case by case.
-use Rattle.std.proofs.Common.{◌≡◌, ℕ, suc, ◌+◌, ◌-◌, ◌<◌, ◌≤◌, true, false, cond, sym, ap, ◌∙◌, subst, arith, rules}
+use Rattle.std.proofs.Common.{◌≡◌, ℕ, ◌+◌, ◌-◌, ◌≤◌, true, false, cond, sym, ap, ◌∙◌, subst, arith, rules}
 use Rattle.chip.specs.Flash.{Flash}
 use Rattle.ring.specs.Places.{flags_at}
 use Rattle.ring.specs.Tally.{begun}
 use Rattle.ring.specs.Turns.{Ready}
-use Rattle.ring.specs.Logs.{claimed, unclaimed, ends, unclosed_copy}
+use Rattle.ring.specs.Logs.{unclaimed, ends, unclosed_copy}
 use Rattle.ring.specs.Rules.{LastIs, Copying, first_live, live_front}
 use Rattle.image.proofs.Lasting.{front_count, front_first, ended_closed, ended_idle, ended, roomy_begun, roomy, straight_closed, straight, kept_none, kept_all, breaks_group, breaks_room, breaks_copy}
 use Rattle.image.proofs.last.check_last.Goals as goal

@@ -1,5 +1,5 @@
 -- The first that is true is the least, and none before it is.
-use Rattle.std.proofs.Common.{◌≡◌, sym, arith, rules}
+use Rattle.std.proofs.Common.{sym, arith, rules}
 use Rattle.ring.proofs.Searching.{least_unique}
 use Rattle.image.proofs.seven.first_of.Goals as goal
 

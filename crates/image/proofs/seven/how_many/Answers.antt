@@ -1,5 +1,5 @@
 -- One more is counted where it is true.
-use Rattle.std.proofs.Common.{◌≡◌, ℕ, ◌+◌, ◌≤◌, Bool, true, false, cond, ◌⊎◌, sym, ap, ◌∙◌, subst, inl, inr, ⊎_elim, add-zero, arith}
+use Rattle.std.proofs.Common.{◌≡◌, ℕ, ◌+◌, ◌≤◌, Bool, true, false, cond, ◌⊎◌, sym, ap, ◌∙◌, inl, inr, ⊎_elim, add-zero, arith}
 use Rattle.ring.specs.Searches.{count}
 use Rattle.ring.proofs.Searching.{count_none, count_more}
 use Rattle.image.proofs.seven.how_many.Goals as goal

@@ -1,5 +1,5 @@
 -- The rules from the second on, one check after the other, each on the chip as it was.
-use Rattle.std.proofs.Common.{◌≡◌, ◌≤◌, sym, refl, ◌∙◌, subst, arith}
+use Rattle.std.proofs.Common.{◌≡◌, sym, refl, ◌∙◌, subst, arith}
 use Rattle.std.proofs.lemmas.Result.{err_from_is_err_and}
 use Rattle.chip.specs.Flash.{Flash}
 use Rattle.ring.specs.Logs.{claimed}

@@ -1,5 +1,5 @@
 -- The tally's bits make the layout, and its first disorder is the breach of the first rule.
-use Rattle.std.proofs.Common.{◌≡◌, ℕ, ◌+◌, ◌*◌, Bool, true, false, cond, refl, ap, ◌∙◌, arith}
+use Rattle.std.proofs.Common.{◌≡◌, ℕ, ◌+◌, ◌*◌, Bool, true, false, cond, refl, ap, ◌∙◌}
 use mir.Val.{bool_byte}
 use Rattle.ring.specs.Rules as rules
 use Rattle.image.proofs.Breaches.{of_tally}

@@ -1,6 +1,6 @@
 -- A block that would come behind the last turn is the one that is being erased.
-use Rattle.std.proofs.Common.{◌≡◌, sym, ap, ◌∙◌, arith, rules}
-use Rattle.ring.proofs.Turning.{comes_late, starts_inside}
+use Rattle.std.proofs.Common.{arith, rules}
+use Rattle.ring.proofs.Turning.{comes_late}
 use Rattle.ring.proofs.layout.Layout.turn_of.Goals as goal
 
 pub returns-else-turn-turns : goal.returns-else-turn-turns
