@@ -1,19 +1,16 @@
 -- The examples, one by one.
-use mathlib.Core.Path.{◌≡◌, refl, sym, ap, subst, ◌∙◌}
-use mathlib.Core.Bool.{true, false}
-use mathlib.Core.List.{List, [], ◌∷◌}
-use Prim.Native.Nat.{ℕ, zero, suc, ◌+◌, ◌-◌, ◌*◌, ◌/◌, ◌%◌, ◌^◌, ◌<◌}
+use mathlib.Core.Path.{◌≡◌, refl, ap, ◌∙◌}
+use mathlib.Core.Bool.{false}
+use Prim.Native.Nat.{ℕ, zero, suc, ◌-◌, ◌/◌, ◌%◌, ◌<◌}
 use native.Mathlib.Omega.{arith}
 use lib.Bits.{bit_and}
 use lib.Dec.{eqb}
-use Rattle.chip.specs.Flash.{Flash}
-use Rattle.ring.specs.Searches.{Least}
-use Rattle.ring.specs.Tally.{tally_byte, tally_bit, cleared, booked, begun}
+use Rattle.ring.specs.Tally.{tally_bit, cleared, booked, begun}
 use Rattle.ring.specs.Places.{flags_at}
 use Rattle.ring.specs.Logs.{closes, ends, is_copy}
 use Rattle.ring.specs.Rules.{inside_group}
 use Rattle.ring.proofs.Searching.{least_unique}
-use Rattle.samples.specs.Samples.{Samples, Tallying}
+use Rattle.samples.specs.Samples.{Tallying}
 use Rattle.samples.proofs.samples_stand.Goals as goal
 
 tallies : Tallying

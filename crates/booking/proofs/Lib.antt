@@ -1,0 +1,5 @@
+pub mod Masks
+pub mod Clearing
+pub mod Carrying
+pub mod Booking
+pub mod Freeing

@@ -1,0 +1,2 @@
+#![tactic(auto)]
+// What the tally's bits and the erase between them leave.

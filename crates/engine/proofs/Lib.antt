@@ -1,0 +1,5 @@
+pub mod Erasing
+pub mod Formatting
+pub mod Serving
+pub mod Starting
+pub mod Opening

@@ -1,0 +1,4 @@
+pub mod Refusals
+pub mod Formats
+pub mod Memories
+pub mod Calls

@@ -1,0 +1,160 @@
+// Batches: how one is opened, puts, and how it ends.
+ghost use Rattle.std.specs.Prelude.{◌≡◌, length};
+ghost use Rattle.chip.specs.Plans.{Performs};
+ghost use Rattle.ring.specs.Turns.{Ready};
+ghost use Rattle.laid.specs.Writing.{closing, dropping};
+ghost use Rattle.engine.specs.Calls.{Opens, Puts, Ends, Permitted, Allowed, ending};
+
+use crate::Engine;
+use crate::memory::{Batch, Memory, Started};
+use crate::refusal::Refusal;
+use crate::serve::batch_of;
+use chip::{Chip, Fault, PAGE};
+use image::Log;
+use ring::Sector;
+use ring::layout::Layout;
+use upkeep::{Room, make_room};
+use writes::Position;
+use writes::slot::{close_slot, drop_slot, put_slot};
+
+// The most puts that a batch may have.
+const LARGEST_BATCH: u16 = 14;
+
+// The slots that stay free for the copies of a reclaim.
+const SPARE: u16 = 7;
+
+// Whether a batch of so many puts may be opened, after so many tickets.
+fn check_open(started: Started, puts: u16, tickets: u32) -> Result<(), Refusal>
+    ensures { Permitted started puts tickets result }
+{
+    if started.batch.is_some() {
+        return Err(Refusal::BatchOpen);
+    }
+    if puts == 0 || puts > LARGEST_BATCH {
+        return Err(Refusal::Count);
+    }
+    if tickets == u32::MAX {
+        return Err(Refusal::NoTicket);
+    }
+    Ok(())
+}
+
+// Whether a put of so many bytes to a sector may join a batch.
+fn check_put(started: Started, batch: Batch, sector: Sector, len: usize) -> Result<(), Refusal>
+    ensures { Allowed started batch sector.0 len result }
+{
+    if len != PAGE {
+        return Err(Refusal::Length);
+    }
+    if sector.0 >= started.log.layout.sizes.sectors {
+        return Err(Refusal::NoSector);
+    }
+    if batch.puts >= batch.limit {
+        return Err(Refusal::BatchFull);
+    }
+    Ok(())
+}
+
+// Closes or drops the batch that ends at a position.
+fn end_slot<C: Chip>(chip: &mut C, layout: Layout, at: Position, closed: bool) -> Result<(), Fault>
+    requires { Ready (C.flash chip.old) layout.sizes layout.cleared }
+    ensures { Performs (ending closed layout.sizes layout.cleared at.0) (C.flash chip.old) result (C.flash chip.new) }
+{
+    if closed {
+        return close_slot(chip, layout, at);
+    }
+    drop_slot(chip, layout, at)
+}
+
+impl<C: Chip> Engine<C> {
+    // Opens a batch of so many puts, once there is room for them, and tells its ticket.
+    pub fn open(&mut self, puts: u16) -> Result<u32, Refusal>
+        ensures { Opens puts (C.flash self.old.chip) self.old.memory result (C.flash self.new.chip) self.new.memory }
+    {
+        let started = self.serving()?;
+        check_open(started, puts, self.memory.tickets)?;
+        self.memory.started = None;
+        match make_room(&mut self.chip, started.log, puts + SPARE)? {
+            Room::Made(log) => {
+                let ticket = self.memory.tickets + 1;
+                let batch = Batch {
+                    ticket,
+                    limit: puts,
+                    puts: 0,
+                };
+                self.memory = Memory {
+                    tickets: ticket,
+                    started: Some(Started {
+                        log,
+                        batch: Some(batch),
+                    }),
+                };
+                Ok(ticket)
+            }
+            Room::Spent(log) => {
+                self.memory.started = Some(Started { log, batch: None });
+                Err(Refusal::Spent)
+            }
+        }
+    }
+
+    // Puts a page for a sector, under the ticket of the open batch.
+    pub fn put(&mut self, ticket: u32, sector: Sector, page: &[u8]) -> Result<(), Refusal>
+        ensures { Puts ticket sector.0 page.now (C.flash self.old.chip) self.old.memory result (C.flash self.new.chip) self.new.memory }
+    {
+        let started = self.serving()?;
+        let batch = batch_of(started, ticket)?;
+        check_put(started, batch, sector, page.len())?;
+        let log = started.log;
+        self.memory.started = None;
+        put_slot(
+            &mut self.chip,
+            log.layout,
+            Position(log.claimed),
+            sector,
+            page,
+        )?;
+        self.memory.started = Some(Started {
+            log: Log {
+                layout: log.layout,
+                claimed: log.claimed + 1,
+            },
+            batch: Some(Batch {
+                ticket: batch.ticket,
+                limit: batch.limit,
+                puts: batch.puts + 1,
+            }),
+        });
+        Ok(())
+    }
+
+    // Ends the open batch, at its last slot; a batch without puts has none.
+    fn end_batch(&mut self, ticket: u32, closed: bool) -> Result<(), Refusal>
+        ensures { Ends (ending closed) ticket (C.flash self.old.chip) self.old.memory result (C.flash self.new.chip) self.new.memory }
+    {
+        let started = self.serving()?;
+        let batch = batch_of(started, ticket)?;
+        let log = started.log;
+        self.memory.started = None;
+        if batch.puts > 0 {
+            let last = Position(log.claimed.saturating_sub(1));
+            end_slot(&mut self.chip, log.layout, last, closed)?;
+        }
+        self.memory.started = Some(Started { log, batch: None });
+        Ok(())
+    }
+
+    // Closes the open batch: all its puts count from now on.
+    pub fn close(&mut self, ticket: u32) -> Result<(), Refusal>
+        ensures { Ends closing ticket (C.flash self.old.chip) self.old.memory result (C.flash self.new.chip) self.new.memory }
+    {
+        self.end_batch(ticket, true)
+    }
+
+    // Drops the open batch: none of its puts counts.
+    pub fn abandon(&mut self, ticket: u32) -> Result<(), Refusal>
+        ensures { Ends dropping ticket (C.flash self.old.chip) self.old.memory result (C.flash self.new.chip) self.new.memory }
+    {
+        self.end_batch(ticket, false)
+    }
+}

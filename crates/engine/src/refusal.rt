@@ -1,0 +1,128 @@
+// Why a volume refuses a call.
+ghost use Rattle.std.specs.Prelude.{◌≡◌, ◌≤◌, [], ◌∷◌, length, take};
+ghost use Rattle.engine.specs.Refusals.{numbers, converted, flawed};
+
+use chip::{Fault, Home};
+use image::{Broken, Flaw};
+use label::LabelFault;
+
+#[derive(Clone, Copy, PartialEq, Eq, Debug)]
+pub enum Refusal {
+    // The volume is not started.
+    NotStarted,
+    // Put, close, drop: the ticket is not that of the open batch.
+    OtherTicket,
+    // Open: a batch is open.
+    BatchOpen,
+    // Open: there is no batch of that many puts.
+    Count,
+    // Read, put: the buffer is not as long as a page.
+    Length,
+    // Read, put: there is no such sector.
+    NoSector,
+    // Put: the batch has had all its puts.
+    BatchFull,
+    // Open: all tickets are given.
+    NoTicket,
+    // Format: sizes that do not fit the chip, or a name that is too long.
+    Sizes,
+    // Start: the label is at fault, at this byte.
+    Label(LabelFault),
+    // Start: a rule is broken.
+    Rule(Broken),
+    // Open: a reclaim is due, and the tally is spent.
+    Spent,
+    // A step was cut, at the block with this home.
+    Cut(Home),
+    // A step that the chip has not. No call asks for one.
+    Range,
+    // The chip was off where it should have power. No call finds it so.
+    NoPower,
+}
+
+// A refusal's numbers: which one it is, and the values that come with it.
+#[derive(Clone, Copy)]
+pub struct Numbers {
+    values: [usize; 3],
+    count: usize,
+    ghost few: { count ≤ 3 },
+    ghost whole: { length values ≡ 3 },
+}
+
+// A refusal that comes with no value.
+fn plain(number: usize) -> Numbers
+    ensures { take result.count result.values ≡ number ∷ [] }
+{
+    Numbers {
+        values: [number, 0, 0],
+        count: 1,
+    }
+}
+
+impl Refusal {
+    pub fn as_numbers(&self) -> Numbers
+        ensures { take result.count result.values ≡ numbers self.now }
+    {
+        match *self {
+            Refusal::NotStarted => plain(1),
+            Refusal::OtherTicket => plain(2),
+            Refusal::BatchOpen => plain(3),
+            Refusal::Count => plain(4),
+            Refusal::Length => plain(5),
+            Refusal::NoSector => plain(6),
+            Refusal::BatchFull => plain(7),
+            Refusal::NoTicket => plain(8),
+            Refusal::Sizes => plain(9),
+            Refusal::Label(fault) => Numbers {
+                values: [10, fault.at, 0],
+                count: 2,
+            },
+            Refusal::Rule(broken) => Numbers {
+                values: [11, usize::from(broken.rule), usize::from(broken.place)],
+                count: 3,
+            },
+            Refusal::Spent => plain(12),
+            Refusal::Cut(home) => Numbers {
+                values: [13, usize::from(home.name), usize::from(home.block)],
+                count: 3,
+            },
+            Refusal::Range => plain(14),
+            Refusal::NoPower => plain(15),
+        }
+    }
+}
+
+impl Numbers {
+    // The numbers, the refusal's own first.
+    pub fn as_slice(&self) -> &[usize]
+        ensures { result.now ≡ take self.now.count self.now.values }
+    {
+        &self.values[0..self.count]
+    }
+}
+
+// What a chip's fault is to the volume.
+impl From<Fault> for Refusal {
+    ghost from_gives = { λ f r. r ≡ converted f };
+
+    fn from(f: Fault) -> Refusal {
+        match f {
+            Fault::Range => Refusal::Range,
+            Fault::NoPower => Refusal::NoPower,
+            Fault::Cut(home) => Refusal::Cut(home),
+        }
+    }
+}
+
+// What an image's flaw is to the volume.
+impl From<Flaw> for Refusal {
+    ghost from_gives = { λ f r. r ≡ flawed f };
+
+    fn from(f: Flaw) -> Refusal {
+        match f {
+            Flaw::NoPower => Refusal::NoPower,
+            Flaw::Label(fault) => Refusal::Label(fault),
+            Flaw::Rule(broken) => Refusal::Rule(broken),
+        }
+    }
+}

@@ -1,0 +1,5 @@
+pub mod Growing
+pub mod Fitting
+pub mod Closing
+pub mod Copying
+pub mod Dropping

@@ -1,0 +1,9 @@
+pub mod Orders
+pub mod Changing
+pub mod Copying
+pub mod Stills
+pub mod Batches
+pub mod Repairing
+pub mod Moving
+pub mod Reclaiming
+pub mod Rooming

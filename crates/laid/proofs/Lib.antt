@@ -1,0 +1,3 @@
+pub mod Keeping
+pub mod Carrying
+pub mod Frames

@@ -1,0 +1,2 @@
+#![tactic(auto)]
+// An image by the log that it carries.

@@ -1,0 +1,11 @@
+pub mod Standing
+pub mod Common
+pub mod Recalling
+pub mod Chaining
+pub mod Formatted
+pub mod Reading
+pub mod Settling
+pub mod Starting
+pub mod Opening
+pub mod Batches
+pub mod Serving

@@ -1,0 +1,2 @@
+#![tactic(auto)]
+// What the programs of a slot leave.

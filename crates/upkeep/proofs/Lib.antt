@@ -1,0 +1,4 @@
+pub mod Mending
+pub mod Moving
+pub mod Repairing
+pub mod Rooming

@@ -1,0 +1,5 @@
+pub mod Numbers
+pub mod Reclaims
+pub mod Repairs
+pub mod Reclaimed
+pub mod Roomy

@@ -1,0 +1,3 @@
+pub mod Masks
+pub mod Allowing
+pub mod Fetching
