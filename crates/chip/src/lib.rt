@@ -5,6 +5,10 @@ ghost use Rattle.chip.specs.Flash.{Flash, home_at, awake};
 ghost use Rattle.chip.specs.Ranges.{Tells, Within, Paged};
 ghost use Rattle.chip.specs.Steps.{program, erase, Answers, Reads};
 
+mod fetching;
+
+pub use self::fetching::{fetch, fetch_into};
+
 // The bytes of one block, and of one page of it.
 pub const BLOCK: usize = 4096;
 

@@ -5,3 +5,4 @@ pub mod Turns
 pub mod Directories
 pub mod Logs
 pub mod Rules
+pub mod States

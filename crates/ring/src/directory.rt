@@ -1,15 +1,17 @@
 // The descriptors of a ring block.
-ghost use Rattle.std.specs.Prelude.{◌≡◌, ℕ, ◌+◌, ◌*◌, ◌<◌, true, length, slice_index};
+ghost use Rattle.std.specs.Prelude.{◌≡◌, ◌+◌, ◌*◌, ◌<◌, true, length, slice_index};
 ghost use Rattle.ring.specs.Directories.{Decodes, Describes};
 
 use crate::Sector;
-use chip::{Block, Chip, Span};
+use chip::{Block, Chip, fetch};
 
-// The slots of a ring block.
-pub const SLOTS: usize = 7;
+// The slots of a ring block, as a number of positions.
+pub const SLOTS: u16 = 7;
 
-// The bytes of a block's descriptors.
-const DESCRIPTORS: usize = 28;
+// The bytes of a descriptor, and of all that a block has.
+pub const DESCRIPTOR: usize = 4;
+
+pub const DESCRIPTORS: usize = 28;
 
 // What a directory says of a slot.
 #[derive(Clone, Copy)]
@@ -20,17 +22,20 @@ pub struct Descriptor {
 
 // The descriptor at a byte of a directory.
 fn describe(bytes: &[u8], at: usize) -> Descriptor
-    requires { (at < 25) × (length bytes.now ≡ 28) }
-    ensures { (result.flags ≡ slice_index bytes.now at) × (result.sector.0 ≡ slice_index bytes.now (at + 1) + 256 * slice_index bytes.now (at + 2)) }
+    requires inside { at < 25 }
+    requires whole { length bytes.now ≡ 28 }
+    ensures flags { result.flags ≡ slice_index bytes.now at }
+    ensures sector { result.sector.0 ≡ slice_index bytes.now (at + 1) + 256 * slice_index bytes.now (at + 2) }
 {
     Descriptor {
         flags: bytes[at],
-        sector: Sector(u16::from(bytes[at + 1]) + 256 * u16::from(bytes[at + 2])),
+        sector: Sector(u16::from_le_bytes([bytes[at + 1], bytes[at + 2]])),
     }
 }
 
-// The descriptors of a directory.
-fn describe_all(bytes: [u8; 28]) -> [Descriptor; 7]
+// The descriptors of a directory. One by one: by `array::from_fn` a proof does not learn that each call of the closure
+// sees the same bytes.
+fn describe_all(bytes: [u8; DESCRIPTORS]) -> [Descriptor; 7]
     ensures { Decodes bytes result }
 {
     [
@@ -44,27 +49,11 @@ fn describe_all(bytes: [u8; 28]) -> [Descriptor; 7]
     ]
 }
 
-// The front of a block's directory.
-fn read_front<C: Chip>(chip: &mut C, block: Block) -> [u8; 28]
-    requires { ((C.flash chip.old).on ≡ true) × (block.0 < (C.flash chip.old).blocks) }
-    ensures bytes { (k : ℕ) → k < 28 → slice_index result k ≡ (C.flash chip.old).byte block.0 k }
-    ensures keeps { C.flash chip.new ≡ C.flash chip.old }
-{
-    let mut bytes = [0xFF; DESCRIPTORS];
-    let front = Span {
-        block,
-        at: 0,
-        len: DESCRIPTORS,
-    };
-    let _ = chip.read(front, &mut bytes);
-    bytes
-}
-
 // The seven descriptors of a block, in one read.
 pub fn read_descriptors<C: Chip>(chip: &mut C, block: Block) -> [Descriptor; 7]
     requires { ((C.flash chip.old).on ≡ true) × (block.0 < (C.flash chip.old).blocks) }
     ensures describes { Describes (C.flash chip.old) block.0 result }
     ensures keeps { C.flash chip.new ≡ C.flash chip.old }
 {
-    describe_all(read_front(chip, block))
+    describe_all(fetch(chip, block, 0))
 }

@@ -13,6 +13,11 @@ pub struct Slot(pub u16);
 #[derive(Clone, Copy, PartialEq, Eq, Debug)]
 pub struct RingBlock(pub u16);
 
+// A place in the log, counted from its first slot.
+#[derive(Clone, Copy, PartialEq, Eq, Debug)]
+pub struct Position(pub u16);
+
 pub mod directory;
 pub mod flags;
 pub mod layout;
+mod place;

@@ -1,0 +1,64 @@
+// Where a position of the log lies.
+ghost use Rattle.std.specs.Prelude.{◌≡◌, ◌+◌, ◌*◌, ◌/◌, ◌%◌, ◌<◌};
+ghost use Rattle.ring.specs.Places.{chip_block, block_at, slot_at};
+ghost use Rattle.ring.specs.Turns.{Shaped};
+
+use crate::directory::{DESCRIPTOR, SLOTS};
+use crate::layout::Layout;
+use crate::{Position, RingBlock, Slot};
+use chip::{Block, PAGE};
+
+impl Position {
+    // The ring's block in which it lies.
+    fn ring_block(self, layout: Layout) -> RingBlock
+        requires { Shaped layout.sizes layout.cleared }
+        ensures { result.0 ≡ block_at layout.sizes layout.cleared self.0 }
+    {
+        RingBlock((layout.first_block() + self.turn()) % layout.sizes.ring)
+    }
+
+    // The chip's block in which it lies.
+    pub fn block(self, layout: Layout) -> Block
+        requires { Shaped layout.sizes layout.cleared }
+        ensures { result.0 ≡ chip_block layout.sizes (block_at layout.sizes layout.cleared self.0) }
+    {
+        layout.chip_block(self.ring_block(layout))
+    }
+
+    // The number of its slot.
+    pub fn slot(self, layout: Layout) -> Slot
+        requires { Shaped layout.sizes layout.cleared }
+        ensures { result.0 ≡ slot_at layout.sizes layout.cleared self.0 }
+    {
+        Slot(SLOTS * self.ring_block(layout).0 + self.0 % SLOTS)
+    }
+
+    // The turn at which its block comes.
+    pub fn turn(self) -> u16
+        ensures { result ≡ self.0 / 7 }
+    {
+        self.0 / SLOTS
+    }
+
+    // Which slot of its block it is.
+    pub fn index(self) -> usize
+        ensures below { result < 7 }
+        ensures place { result ≡ self.0 % 7 }
+    {
+        usize::from(self.0 % SLOTS)
+    }
+
+    // The byte of the block at which its descriptor starts.
+    pub fn descriptor(self) -> usize
+        ensures { result ≡ 4 * (self.0 % 7) }
+    {
+        DESCRIPTOR * self.index()
+    }
+
+    // The byte of the block at which its page starts.
+    pub fn page(self) -> usize
+        ensures { result ≡ 512 * (self.0 % 7 + 1) }
+    {
+        PAGE * (self.index() + 1)
+    }
+}
