@@ -2,7 +2,7 @@
 ghost use Rattle.std.specs.Prelude.{◌≡◌, ℕ, ◌+◌, ◌<◌, true, length, slice_index};
 ghost use Rattle.chip.specs.Ranges.{Within};
 
-use crate::{Block, Chip, Span};
+use crate::{Block, Chip, ERASED, Span};
 
 // Fills a buffer with the bytes of a block from `at` on.
 pub fn fetch_into<C: Chip>(chip: &mut C, block: Block, at: usize, into: &mut [u8])
@@ -22,7 +22,7 @@ pub fn fetch<C: Chip, const N: usize>(chip: &mut C, block: Block, at: usize) -> 
     ensures bytes { (k : ℕ) → k < N → slice_index result k ≡ (C.flash chip.old).byte block.0 (at + k) }
     ensures keeps { C.flash chip.new ≡ C.flash chip.old }
 {
-    let mut bytes = [0xFF; N];
+    let mut bytes = [ERASED; N];
     fetch_into(chip, block, at, &mut bytes);
     bytes
 }

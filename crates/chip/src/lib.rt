@@ -14,6 +14,9 @@ pub const BLOCK: usize = 4096;
 
 pub const PAGE: usize = 512;
 
+// The byte of an erased cell.
+pub const ERASED: u8 = 0xFF;
+
 // The most blocks that a chip shows.
 pub const MOST_BLOCKS: u16 = 65535;
 

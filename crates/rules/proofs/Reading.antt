@@ -4,21 +4,15 @@ use Rattle.chip.specs.Flash.{Flash}
 use Rattle.label.specs.declared.Sizes.{Sizes}
 use Rattle.ring.specs.declared.directory.Descriptor.{Descriptor}
 use Rattle.ring.specs.Directories.{none}
-use Rattle.ring.specs.Places.{chip_block, first_block, descriptor_byte, flags_at, sector_at, page_byte}
+use Rattle.ring.specs.Places.{chip_block, first_block, descriptor_byte, flags_at}
 use Rattle.rules.specs.Breaches.{Shows}
 use Rattle.rules.proofs.Going.{turn_is, slot_is}
 
 -- the bytes of a position's descriptor lie in the block of its turn
-pub byte_of : (s : Flash) (z : Sizes) (c i j k : ℕ) → j < 7 → descriptor_byte s z c (7 * i + j) k ≡ s.byte (chip_block z ((first_block z c + i) % z.ring)) (4 * j + k)
+byte_of : (s : Flash) (z : Sizes) (c i j k : ℕ) → j < 7 → descriptor_byte s z c (7 * i + j) k ≡ s.byte (chip_block z ((first_block z c + i) % z.ring)) (4 * j + k)
 byte_of s z c i j k lt =
     ap (λ t. s.byte (chip_block z ((first_block z c + t) % z.ring)) (4 * ((7 * i + j) % 7) + k)) (turn_is i j lt)
     ∙ ap (λ t. s.byte (chip_block z ((first_block z c + i) % z.ring)) (4 * t + k)) (slot_is i j lt)
-
--- and those of its page
-pub page_of : (s : Flash) (z : Sizes) (c i j o : ℕ) → j < 7 → page_byte s z c (7 * i + j) o ≡ s.byte (chip_block z ((first_block z c + i) % z.ring)) (512 * (j + 1) + o)
-page_of s z c i j o lt =
-    ap (λ t. s.byte (chip_block z ((first_block z c + t) % z.ring)) (512 * ((7 * i + j) % 7 + 1) + o)) (turn_is i j lt)
-    ∙ ap (λ t. s.byte (chip_block z ((first_block z c + i) % z.ring)) (512 * (t + 1) + o)) (slot_is i j lt)
 
 -- a chip that is as it was shows the same
 pub shows_as : {s t : Flash} {z : Sizes} {c i : ℕ} {slots : List Descriptor} → t ≡ s → Shows t z c i slots → Shows s z c i slots
@@ -28,9 +22,3 @@ pub flags_of : (s : Flash) (z : Sizes) (c i : ℕ) (slots : List Descriptor) (j 
 flags_of s z c i slots j h lt =
     let zero : 4 * j + 0 ≡ 4 * j = omega arith in
     byte_of s z c i j 0 lt ∙ ap (s.byte (chip_block z ((first_block z c + i) % z.ring))) zero ∙ sym (h.describes.flags j lt)
-
-pub sector_of : (s : Flash) (z : Sizes) (c i : ℕ) (slots : List Descriptor) (j : ℕ) → Shows s z c i slots → j < 7 → sector_at s z c (7 * i + j) ≡ (get_or slots j none).sector.0
-sector_of s z c i slots j h lt =
-    let low = byte_of s z c i j 1 lt in
-    let high = byte_of s z c i j 2 lt in
-    omega (arith, low, high, h.describes.sector j lt)

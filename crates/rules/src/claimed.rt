@@ -4,23 +4,17 @@ ghost use Rattle.ring.specs.Logs.{claimed};
 ghost use Rattle.ring.specs.Turns.{Ready};
 ghost use Rattle.rules.specs.Firsts.{FirstUnclaimed};
 
-use crate::flags::UNCLAIMED;
 use crate::turns::read_turn;
-use chip::Chip;
-use ring::directory::Descriptor;
+use chip::{Chip, ERASED};
+use ring::directory::{Descriptor, SLOTS};
 use ring::layout::Layout;
 
 // The first of a block's slots that is not claimed.
-fn first_unclaimed(slots: &[Descriptor]) -> Option<u16>
+fn first_unclaimed(slots: &[Descriptor]) -> Option<usize>
     requires { length slots.now ≡ 7 }
     ensures { FirstUnclaimed slots.now result }
 {
-    for j in 0..7u16 {
-        if slots[usize::from(j)].flags == UNCLAIMED {
-            return Some(j);
-        }
-    }
-    None
+    slots.iter().position(|slot| slot.flags == ERASED)
 }
 
 // How many slots are claimed: those before the first, in the order of the log, that is not.
@@ -32,8 +26,8 @@ pub fn claimed_slots<C: Chip>(chip: &mut C, layout: Layout) -> u16
     for turn in 0..layout.turns() {
         let slots = read_turn(chip, layout, turn);
         if let Some(j) = first_unclaimed(&slots) {
-            return 7 * turn + j;
+            return SLOTS * turn + j as u16;
         }
     }
-    7 * layout.turns()
+    SLOTS * layout.turns()
 }

@@ -7,15 +7,10 @@ ghost use Rattle.ring.specs.Turns.{Ready};
 ghost use Rattle.rules.specs.Bytes.{Spare, Strays};
 ghost use Rattle.rules.specs.Firsts.{FirstBlock};
 
-use crate::bytes::{ERASED, read_bytes};
-use chip::{Block, Chip, PAGE};
+use chip::{Block, Chip, ERASED, PAGE, fetch};
 use ring::RingBlock;
+use ring::directory::{DESCRIPTOR, DESCRIPTORS};
 use ring::layout::Layout;
-
-// The bytes of a directory's descriptors, and of one of them.
-const DESCRIPTORS: usize = 28;
-
-const DESCRIPTOR: usize = 4;
 
 // Whether neither flags nor a sector number lie at an offset of a directory.
 fn is_spare(offset: usize) -> bool
@@ -25,16 +20,12 @@ fn is_spare(offset: usize) -> bool
 }
 
 // Whether a spare byte of a directory is not erased.
-fn has_stray(page: &[u8]) -> bool
-    requires { length page.now ≡ 512 }
+fn has_stray(page: &[u8; PAGE]) -> bool
     ensures { Tells result (Strays (λ o. slice_index page.now o)) }
 {
-    for (o, b) in page.iter().enumerate() {
-        if *b != ERASED && is_spare(o) {
-            return true;
-        }
-    }
-    false
+    page.iter()
+        .enumerate()
+        .any(|(o, byte)| *byte != ERASED && is_spare(o))
 }
 
 // The same of the directory of a chip's block.
@@ -43,9 +34,7 @@ fn is_scribbled<C: Chip>(chip: &mut C, block: Block) -> bool
     ensures tells { Tells result (Strays ((C.flash chip.old).byte block.0)) }
     ensures keeps { C.flash chip.new ≡ C.flash chip.old }
 {
-    let mut page = [ERASED; PAGE];
-    read_bytes(chip, block, 0, &mut page);
-    has_stray(&page)
+    has_stray(&fetch(chip, block, 0))
 }
 
 // The first ring block with a directory that has more than its descriptors in it.

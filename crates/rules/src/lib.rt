@@ -5,7 +5,6 @@
 mod bytes;
 mod claimed;
 mod directories;
-mod flags;
 mod order;
 mod slots;
 mod turns;

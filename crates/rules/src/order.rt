@@ -1,5 +1,5 @@
 // The rule that claimed slots are filled in their order, and that a copy begins no sooner than a group ends.
-ghost use Rattle.std.specs.Prelude.{◌≡◌, suc, ◌+◌, ◌-◌, ◌*◌, ◌<◌, true, false, slice_index_or};
+ghost use Rattle.std.specs.Prelude.{◌≡◌, suc, ◌-◌, ◌/◌, ◌%◌, ◌<◌, true, false, slice_index_or};
 ghost use Rattle.chip.specs.Ranges.{Tells};
 ghost use Rattle.ring.specs.Directories.{none};
 ghost use Rattle.ring.specs.Logs.{claimed as claimed_of, ends, is_copy};
@@ -8,80 +8,70 @@ ghost use Rattle.ring.specs.Rules.{Misplaced, unfilled};
 ghost use Rattle.ring.specs.Turns.{Ready};
 ghost use Rattle.rules.specs.Breaches.{Shows};
 
-use crate::flags::{ends_group, is_copy, is_unfilled};
 use crate::turns::read_turn;
 use chip::Chip;
+use ring::Position;
 use ring::directory::Descriptor;
+use ring::flags::{ends_group, is_copy, is_unfilled};
 use ring::layout::Layout;
 
-// The flags of the position before the slot `j` of a turn. That of a block's first slot is in the turn before.
-fn flags_before<C: Chip>(
-    chip: &mut C,
-    layout: Layout,
-    turn: u16,
-    slots: &[Descriptor],
-    j: u16,
-) -> u8
+// The flags of the position before one of a block with these descriptors. That of a block's first slot is in the turn
+// before.
+fn flags_before<C: Chip>(chip: &mut C, layout: Layout, at: Position, slots: &[Descriptor]) -> u8
     requires ready { Ready (C.flash chip.old) layout.sizes layout.cleared }
-    requires shows { Shows (C.flash chip.old) layout.sizes layout.cleared turn slots.now }
-    requires inside { j < 7 }
-    requires behind { 0 < 7 * turn + j }
-    ensures flags { result ≡ flags_at (C.flash chip.old) layout.sizes layout.cleared (7 * turn + j - 1) }
+    requires shows { Shows (C.flash chip.old) layout.sizes layout.cleared (at.0 / 7) slots.now }
+    requires behind { 0 < at.0 }
+    ensures flags { result ≡ flags_at (C.flash chip.old) layout.sizes layout.cleared (at.0 - 1) }
     ensures keeps { C.flash chip.new ≡ C.flash chip.old }
 {
-    if j > 0 {
-        return slots[usize::from(j) - 1].flags;
+    let before = Position(at.0 - 1);
+    if at.index() > 0 {
+        return slots[before.index()].flags;
     }
-    let before = read_turn(chip, layout, turn - 1);
-    before[6].flags
+    let behind = read_turn(chip, layout, before.turn());
+    behind[before.index()].flags
 }
 
 // Whether a slot is not filled, though another is claimed behind it.
-fn is_unfinished(position: u16, claimed: u16, flags: u8) -> bool
-    requires { position < 28672 }
-    ensures { Tells result ((suc position < claimed) × (unfilled flags ≡ true)) }
+fn is_unfinished(at: Position, claimed: u16, flags: u8) -> bool
+    ensures { Tells result ((suc at.0 < claimed) × (unfilled flags ≡ true)) }
 {
-    position + 1 < claimed && is_unfilled(flags)
+    at.0.saturating_add(1) < claimed && is_unfilled(flags)
 }
 
-// Whether the slot `j` of a turn is a copy that stands inside a group.
+// Whether the slot at a position, of a block with these descriptors, is a copy that stands inside a group.
 fn splits_group<C: Chip>(
     chip: &mut C,
     layout: Layout,
     claimed: u16,
-    turn: u16,
+    at: Position,
     slots: &[Descriptor],
-    j: u16,
 ) -> bool
     requires ready { Ready (C.flash chip.old) layout.sizes layout.cleared }
-    requires shows { Shows (C.flash chip.old) layout.sizes layout.cleared turn slots.now }
-    requires inside { j < 7 }
-    ensures tells { Tells result ((0 < 7 * turn + j) × (7 * turn + j < claimed) × (is_copy (slice_index_or slots.now j none).flags ≡ true) × (ends (flags_at (C.flash chip.old) layout.sizes layout.cleared (7 * turn + j - 1)) ≡ false)) }
+    requires shows { Shows (C.flash chip.old) layout.sizes layout.cleared (at.0 / 7) slots.now }
+    ensures tells { Tells result ((0 < at.0) × (at.0 < claimed) × (is_copy (slice_index_or slots.now (at.0 % 7) none).flags ≡ true) × (ends (flags_at (C.flash chip.old) layout.sizes layout.cleared (at.0 - 1)) ≡ false)) }
     ensures keeps { C.flash chip.new ≡ C.flash chip.old }
 {
-    let position = 7 * turn + j;
-    if position == 0 || position >= claimed || !is_copy(slots[usize::from(j)].flags) {
+    if at.0 == 0 || at.0 >= claimed || !is_copy(slots[at.index()].flags) {
         return false;
     }
-    !ends_group(flags_before(chip, layout, turn, slots, j))
+    !ends_group(flags_before(chip, layout, at, slots))
 }
 
-// Whether the slot `j` of a turn breaks the order of the claimed slots.
+// Whether the slot at a position, of a block with these descriptors, breaks the order of the claimed slots.
 pub fn is_misplaced<C: Chip>(
     chip: &mut C,
     layout: Layout,
     claimed: u16,
-    turn: u16,
+    at: Position,
     slots: &[Descriptor],
-    j: u16,
 ) -> bool
     requires ready { Ready (C.flash chip.old) layout.sizes layout.cleared }
     requires count { claimed ≡ claimed_of (C.flash chip.old) layout.sizes layout.cleared }
-    requires shows { Shows (C.flash chip.old) layout.sizes layout.cleared turn slots.now }
-    requires inside { j < 7 }
-    ensures tells { Tells result (Misplaced (C.flash chip.old) layout.sizes layout.cleared (7 * turn + j)) }
+    requires shows { Shows (C.flash chip.old) layout.sizes layout.cleared (at.0 / 7) slots.now }
+    ensures tells { Tells result (Misplaced (C.flash chip.old) layout.sizes layout.cleared at.0) }
     ensures keeps { C.flash chip.new ≡ C.flash chip.old }
 {
-    is_unfinished(7 * turn + j, claimed, slots[usize::from(j)].flags)
-        || splits_group(chip, layout, claimed, turn, slots, j)
+    is_unfinished(at, claimed, slots[at.index()].flags)
+        || splits_group(chip, layout, claimed, at, slots)
 }

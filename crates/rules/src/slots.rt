@@ -1,5 +1,5 @@
 // The rules that each slot of the log keeps by itself, and the first slot that breaks one.
-ghost use Rattle.std.specs.Prelude.{◌≡◌, ◌+◌, ◌*◌, ◌<◌, ◌≤◌, true};
+ghost use Rattle.std.specs.Prelude.{◌≡◌, ◌/◌, ◌<◌, ◌≤◌, true};
 ghost use Rattle.chip.specs.Ranges.{Tells};
 ghost use Rattle.ring.specs.Logs.{claimed as claimed_of};
 ghost use Rattle.ring.specs.Places.{slot_at};
@@ -8,14 +8,14 @@ ghost use Rattle.ring.specs.Turns.{Ready, turns_of};
 ghost use Rattle.rules.specs.Breaches.{Breaks, Knows, Shows};
 ghost use Rattle.rules.specs.Firsts.{FirstSlot, FirstAtTurn};
 
-use crate::flags::{is_legal, is_numbered};
 use crate::order::is_misplaced;
 use crate::turns::read_turn;
 use crate::unclaimed::is_unclean;
 use chip::Chip;
-use ring::directory::Descriptor;
+use ring::directory::{Descriptor, SLOTS};
+use ring::flags::{is_legal, is_numbered};
 use ring::layout::Layout;
-use ring::{RingBlock, Slot};
+use ring::{Position, RingBlock, Slot};
 
 // A rule about slots.
 #[derive(Clone, Copy)]
@@ -37,27 +37,25 @@ fn is_beyond(slot: Descriptor, sectors: u16) -> bool
     is_numbered(slot.flags) && slot.sector.0 >= sectors
 }
 
-// Whether the slot `j` of the block at a turn of the log breaks a rule; `slots` are the block's descriptors.
+// Whether the slot at a position, of a block with these descriptors, breaks a rule.
 fn breaks<C: Chip>(
     chip: &mut C,
     layout: Layout,
     rule: Rule,
-    turn: u16,
+    at: Position,
     slots: &[Descriptor],
-    j: u16,
 ) -> bool
     requires ready { Ready (C.flash chip.old) layout.sizes layout.cleared }
     requires knows { Knows (C.flash chip.old) layout.sizes layout.cleared rule }
-    requires shows { Shows (C.flash chip.old) layout.sizes layout.cleared turn slots.now }
-    requires inside { j < 7 }
-    ensures tells { Tells result (Breaks (C.flash chip.old) layout.sizes layout.cleared rule (7 * turn + j)) }
+    requires shows { Shows (C.flash chip.old) layout.sizes layout.cleared (at.0 / 7) slots.now }
+    ensures tells { Tells result (Breaks (C.flash chip.old) layout.sizes layout.cleared rule at.0) }
     ensures keeps { C.flash chip.new ≡ C.flash chip.old }
 {
-    let slot = slots[usize::from(j)];
+    let slot = slots[at.index()];
     match rule {
         Rule::Legal => !is_legal(slot.flags),
-        Rule::Clean(claimed) => is_unclean(chip, layout, claimed, turn, j),
-        Rule::Ordered(claimed) => is_misplaced(chip, layout, claimed, turn, slots, j),
+        Rule::Clean(claimed) => is_unclean(chip, layout, claimed, at),
+        Rule::Ordered(claimed) => is_misplaced(chip, layout, claimed, at, slots),
         Rule::InRange => is_beyond(slot, layout.sizes.sectors),
     }
 }
@@ -71,8 +69,8 @@ fn first_at_turn<C: Chip>(chip: &mut C, layout: Layout, rule: Rule, turn: u16) -
     ensures keeps { C.flash chip.new ≡ C.flash chip.old }
 {
     let slots = read_turn(chip, layout, turn);
-    for j in 0..7 {
-        if breaks(chip, layout, rule, turn, &slots, j) {
+    for j in 0..SLOTS {
+        if breaks(chip, layout, rule, Position(SLOTS * turn + j), &slots) {
             return Some(j);
         }
     }
@@ -89,7 +87,7 @@ fn first_slot<C: Chip>(chip: &mut C, layout: Layout, rule: Rule) -> Option<Slot>
     for b in 0..layout.sizes.ring {
         if let Some(turn) = layout.turn_of(RingBlock(b)) {
             if let Some(j) = first_at_turn(chip, layout, rule, turn) {
-                return Some(Slot(7 * b + j));
+                return Some(Slot(SLOTS * b + j));
             }
         }
     }

@@ -5,7 +5,7 @@ ghost use Rattle.chip.specs.Flash.{Flash};
 ghost use Rattle.ring.specs.Tally.{tally_byte};
 ghost use Rattle.tally.specs.Counts.{Fronts, Scanned, Holds, Advanced, Tallied};
 
-use chip::{Block, Chip, PAGE, Span};
+use chip::{Block, Chip, PAGE, fetch};
 
 // The pages of a block.
 const PAGES: u16 = 8;
@@ -56,19 +56,16 @@ fn add_page(mut cleared: u32, page: &[u8], first: u16) -> Result<u32, Disorder>
 }
 
 // A page of the tally, counted from the front of its first block.
-fn read_page<C: Chip>(chip: &mut C, page: u16) -> [u8; 512]
+fn read_page<C: Chip>(chip: &mut C, page: u16) -> [u8; PAGE]
     requires { ((C.flash chip.old).on ≡ true) × ((page < 64) × (8 + page < 8 * (C.flash chip.old).blocks)) }
     ensures bytes { Holds (C.flash chip.old) (512 * page) result }
     ensures keeps { C.flash chip.new ≡ C.flash chip.old }
 {
-    let mut bytes = [0xFF; PAGE];
-    let span = Span {
-        block: Block(1 + page / PAGES),
-        at: PAGE * usize::from(page % PAGES),
-        len: PAGE,
-    };
-    let _ = chip.read(span, &mut bytes);
-    bytes
+    fetch(
+        chip,
+        Block(1 + page / PAGES),
+        PAGE * usize::from(page % PAGES),
+    )
 }
 
 // Reads the tally of `blocks` blocks: how many erases are booked, and whether one more has begun; or the first byte
