@@ -9,7 +9,8 @@ use Rattle.ring.specs.Logs.{Entry, no_entry, closes, ends, counts, later, live, 
 use Rattle.ring.proofs.Searching.{least_is, length-row, get_or-row}
 use Rattle.lookup.specs.declared.walk.Walk.{Walk}
 use Rattle.lookup.specs.declared.walk.Visit.{Visit}
-use Rattle.lookup.specs.Walks.{SteppedAmong, hits, or_here}
+use Rattle.ring.specs.declared.layout.Log.{Log}
+use Rattle.lookup.specs.Walks.{slots_of, Stepped, hits, or_here}
 
 -- the first m slots from one of them on are that slot and the rest
 tail_step : (s : Flash) (z : Sizes) (c m p : ℕ) → p < m → drop p (log_of s z c m) ≡ entry_at s z c p ∷ drop (p + 1) (log_of s z c m)
@@ -51,12 +52,16 @@ live_step s z c m p x lt =
     ∙ onward_step p (live x (drop (p + 1) (log_of s z c m))) (eqb (entry_at s z c p).sector x && counts (entry_at s z c p ∷ drop (p + 1) (log_of s z c m)))
     ∙ ap (λ es. or_here (last_from s z c m x (p + 1)) (eqb (entry_at s z c p).sector x && counts es) p) (sym (tail_step s z c m p lt))
 
--- the same of a step of a walk
-pub live_back : (s : Flash) (z : Sizes) (c m x : ℕ) (old new : Walk) (v : Visit) → SteppedAmong s z c m old (Some v) new → last_from s z c m x new.position ≡ or_here (last_from s z c m x old.position) (hits v x) v.position
-live_back s z c m x old new v (next, at, _, h, _) =
-    ap (last_from s z c m x) at
-    ∙ live_step s z c m v.position x h.inside
-    ∙ ap₂ (λ p t. or_here (last_from s z c m x p) t v.position) next (ap₂ (λ n t. eqb n x && t) (sym h.number) (sym h.group))
+-- the position of the last slot of a log, from p on, that is live for the sector x
+abbrev pub last_in : Flash → Log → ℕ → ℕ → Option ℕ
+last_in s log x p = last_from s log.layout.sizes log.layout.cleared log.claimed x p
+
+-- one step of a walk
+pub live_back : (s : Flash) (log : Log) (x : ℕ) (old new : Walk) (v : Visit) → Stepped s log old (Some v) new → last_in s log x new.position ≡ or_here (last_in s log x old.position) (hits v x) v.position
+live_back s log x old new v (next, at, h, _) =
+    ap (last_in s log x) at
+    ∙ live_step s log.layout.sizes log.layout.cleared log.claimed v.position x h.inside
+    ∙ ap₂ (λ p t. or_here (last_in s log x p) t v.position) next (ap₂ (λ n t. eqb n x && t) (sym h.number) (sym h.group))
 
 -- before the first step nothing is found; after the last, what is live among the m slots
 pub last_none : (s : Flash) (z : Sizes) (c m x p : ℕ) → p ≡ m → last_from s z c m x p ≡ None
@@ -87,14 +92,14 @@ pub claimed_most : (s : Flash) (z : Sizes) (c : ℕ) → claimed s z c ≤ posit
 claimed_most s z c = (least_is (λ p. eqb (flags_at s z c p) 255) (positions z c)).bound
 
 -- the first hit from the back is the live slot, and a miss changes nothing
-pub hit_is : (s : Flash) (z : Sizes) (c m x : ℕ) (old new : Walk) (v : Visit) → SteppedAmong s z c m old (Some v) new → last_from s z c m x old.position ≡ None → hits v x ≡ true → live x (log_of s z c m) ≡ Some v.position
-hit_is s z c m x old new v step before hit =
-    last_kept s z c m x new.position v.position
-    (live_back s z c m x old new v step ∙ ap₂ (λ o t. or_here o t v.position) before hit)
+pub hit_is : (s : Flash) (log : Log) (x : ℕ) (old new : Walk) (v : Visit) → Stepped s log old (Some v) new → last_in s log x old.position ≡ None → hits v x ≡ true → live x (slots_of s log) ≡ Some v.position
+hit_is s log x old new v step before hit =
+    last_kept s log.layout.sizes log.layout.cleared log.claimed x new.position v.position
+    (live_back s log x old new v step ∙ ap₂ (λ o t. or_here o t v.position) before hit)
 
-pub miss_is : (s : Flash) (z : Sizes) (c m x : ℕ) (old new : Walk) (v : Visit) → SteppedAmong s z c m old (Some v) new → last_from s z c m x old.position ≡ None → hits v x ≡ false → last_from s z c m x new.position ≡ None
-miss_is s z c m x old new v step before miss = live_back s z c m x old new v step ∙ ap₂ (λ o t. or_here o t v.position) before miss
+pub miss_is : (s : Flash) (log : Log) (x : ℕ) (old new : Walk) (v : Visit) → Stepped s log old (Some v) new → last_in s log x old.position ≡ None → hits v x ≡ false → last_in s log x new.position ≡ None
+miss_is s log x old new v step before miss = live_back s log x old new v step ∙ ap₂ (λ o t. or_here o t v.position) before miss
 
--- a step on the same flash, of a walk that holds m slots for claimed
-pub same_step : (f s : Flash) (z : Sizes) (c n m : ℕ) (old new : Walk) (v : Visit) → f ≡ s → n ≡ m → SteppedAmong f z c n old (Some v) new → SteppedAmong s z c m old (Some v) new
-same_step f s z c n m old new v e g step = subst (λ k. SteppedAmong s z c k old (Some v) new) g (subst (λ (t : Flash). SteppedAmong t z c n old (Some v) new) e step)
+-- a step on the same flash
+pub same_step : (f s : Flash) (log : Log) (old new : Walk) (v : Visit) → f ≡ s → Stepped f log old (Some v) new → Stepped s log old (Some v) new
+same_step f s log old new v e step = subst (λ (t : Flash). Stepped t log old (Some v) new) e step

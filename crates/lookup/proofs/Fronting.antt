@@ -1,5 +1,5 @@
 -- What was noted for the first seven positions says which of them are live.
-use Rattle.std.proofs.Common.{◌≡◌, ℕ, suc, ◌+◌, ◌*◌, ◌%◌, ◌<◌, ◌≤◌, Bool, true, false, cond, ◌&&◌, eqb, List, [], ◌∷◌, length, get_or, Some, None, Option, sym, refl, ap, ◌∙◌, ⊎_elim, arith}
+use Rattle.std.proofs.Common.{◌≡◌, ℕ, suc, ◌+◌, ◌*◌, ◌%◌, ◌<◌, ◌≤◌, Bool, true, false, cond, ◌&&◌, eqb, List, [], ◌∷◌, length, get_or, Some, None, Option, sym, refl, ap, ◌∙◌, ap₂, ⊎_elim, arith}
 use Rattle.std.proofs.lemmas.Bool.{cases_lt, ne_eqb}
 use Rattle.chip.specs.Flash.{Flash}
 use Rattle.label.specs.declared.Sizes.{Sizes}
@@ -10,20 +10,32 @@ use Rattle.ring.specs.Logs.{Entry, no_entry, counts, later, live, points, is_liv
 use Rattle.ring.proofs.Searching.{length-row, get_or-row}
 use Rattle.lookup.specs.declared.walk.Walk.{Walk}
 use Rattle.lookup.specs.declared.walk.Visit.{Visit}
-use Rattle.lookup.specs.Walks.{SteppedAmong, hits, or_here}
-use Rattle.lookup.specs.Fronts.{sector_of, Noted, Own}
+use Rattle.lookup.specs.declared.front.Place.{Place}
+use Rattle.ring.specs.declared.layout.Log.{Log}
+use Rattle.lookup.specs.Walks.{Stepped, hits, or_here}
+use Rattle.lookup.specs.Fronts.{place_at, sector_of, Told, Noted, Own}
 use Rattle.lookup.specs.Answers.{LiveFrontAmong}
-use Rattle.lookup.proofs.Backward.{last_from, live_back, last_all}
+use Rattle.lookup.proofs.Backward.{last_in, last_none, live_back, last_all}
 
--- for each of the seven positions, the last slot from p on that counts for its sector
-abbrev pub Latest : Flash → Sizes → ℕ → ℕ → List Descriptor → ℕ → List (Option ℕ) → Type 0
-Latest s z c m ds p found = (j : ℕ) → j < 7 → get_or found j None ≡ last_from s z c m (sector_of ds j) p
+-- for each of seven positions, the last slot from p on that counts for its sector; `base` are the seven before any was noted
+pub record Latest (s : Flash) (log : Log) (base : List Place) (p : ℕ) (ps : List Place) : Type 0 where
+  pub sector : (j : ℕ) → j < 7 → (place_at ps j).sector ≡ (place_at base j).sector
+  pub last : (j : ℕ) → j < 7 → (place_at ps j).latest ≡ last_in s log (place_at base j).sector.0 p
 
-pub noted_back : (s : Flash) (z : Sizes) (c m : ℕ) (ds : List Descriptor) (old new : List (Option ℕ)) (w u : Walk) (v : Visit) → SteppedAmong s z c m w (Some v) u → Noted ds old v new → Latest s z c m ds w.position old → Latest s z c m ds u.position new
-noted_back s z c m ds old new w u v step noted before j lt =
-    noted j lt
-    ∙ ap (λ o. or_here o (hits v (sector_of ds j)) v.position) (before j lt)
-    ∙ sym (live_back s z c m (sector_of ds j) w u v step)
+pub latest_none : (s : Flash) (log : Log) (ds : List Descriptor) (p : ℕ) (ps : List Place) → p ≡ log.claimed → Told ds ps → Latest s log ps p ps
+latest_none s log ds p ps e told = record {
+  sector = λ j lt. refl;
+  last = λ j lt. (told j lt).1 ∙ sym (last_none s log.layout.sizes log.layout.cleared log.claimed (place_at ps j).sector.0 p e);
+}
+
+pub noted_back : (s : Flash) (log : Log) (base old new : List Place) (w u : Walk) (v : Visit) → Stepped s log w (Some v) u → Noted old v new → Latest s log base w.position old → Latest s log base u.position new
+noted_back s log base old new w u v step noted before = record {
+  sector = λ j lt. (noted j lt).0 ∙ before.sector j lt;
+  last = λ j lt.
+      (noted j lt).1
+      ∙ ap₂ (λ o x. or_here o (hits v x) v.position) (before.last j lt) (ap (λ x. x.0) (before.sector j lt))
+      ∙ sym (live_back s log (place_at base j).sector.0 w u v step);
+}
 
 -- a live slot is in the log
 pub live_inside : (x : ℕ) (es : List Entry) (i : ℕ) → live x es ≡ Some i → i < length es
@@ -62,8 +74,8 @@ live_in_front s z c m j ds lt h =
     ∙ sym (none_behind (get_or (log_of s z c m) j no_entry).sector (log_of s z c m) j (omega (arith, long))))
     (cases_lt j m)
 
-pub front_is : (s : Flash) (z : Sizes) (c m p : ℕ) (ds : List Descriptor) (found : List (Option ℕ)) (r : List Bool) → p ≡ 0 → Describes s (chip_block z (block_at z c 0)) ds → Latest s z c m ds p found → Own found r → LiveFrontAmong s z c m r
-front_is s z c m p ds found r end h latest own j lt =
+pub front_is : (s : Flash) (log : Log) (p : ℕ) (ds : List Descriptor) (base ps : List Place) (r : List Bool) → p ≡ 0 → Describes s (chip_block log.layout.sizes (block_at log.layout.sizes log.layout.cleared 0)) ds → Told ds base → Latest s log base p ps → Own ps r → LiveFrontAmong s log.layout.sizes log.layout.cleared log.claimed r
+front_is s log p ds base ps r end h told latest own j lt =
     own j lt
-    ∙ ap (λ o. points o j) (latest j lt ∙ last_all s z c m (sector_of ds j) p end)
-    ∙ live_in_front s z c m j ds lt h
+    ∙ ap (λ o. points o j) (latest.last j lt ∙ ap (λ x. last_in s log x p) (told j lt).0 ∙ last_all s log.layout.sizes log.layout.cleared log.claimed (sector_of ds j) p end)
+    ∙ live_in_front s log.layout.sizes log.layout.cleared log.claimed j ds lt h

@@ -1,14 +1,15 @@
 #![tactic(auto)]
-// Look-ups in a volume's log, which go from its newest slot back and stay right on any image.
+// Look-ups in a volume's log, which go from its newest slot back and stay right on any image. Each is asked for the first
+// slots, as many as a log holds for claimed, whether an image has so many claimed or not.
 ghost use Rattle.std.specs.Prelude.{◌≡◌, ◌≤◌};
 ghost use Rattle.ring.specs.Logs.{claimed as claimed_of};
 ghost use Rattle.ring.specs.Places.{positions};
 ghost use Rattle.ring.specs.Turns.{Ready};
-ghost use Rattle.lookup.specs.Answers.{Found, FoundAmong, LiveFront, LiveFrontAmong, written as written_in, written_among as written_first};
+ghost use Rattle.lookup.specs.Answers.{Found, FoundAmong, LiveFront, LiveFrontAmong, written as written_in, written_among};
 
 use chip::Chip;
-use ring::layout::Layout;
-use ring::{Sector, Slot};
+use ring::layout::Log;
+use ring::{Position, Sector, Slot};
 
 mod flags;
 mod front;
@@ -17,85 +18,56 @@ mod walk;
 
 use self::front::Front;
 use self::marks::Marks;
-use self::walk::{Walk, directory_of, slot_at};
+use self::walk::{Walk, directory_of};
 
-// The slot in which a sector lives among the first `claimed` slots, whether an image has so many claimed or not.
-pub fn live_slot_among<C: Chip>(
-    chip: &mut C,
-    layout: Layout,
-    claimed: u16,
-    sector: Sector,
-) -> Option<Slot>
-    requires { (Ready (C.flash chip.old) layout.sizes layout.cleared) × (claimed ≤ positions layout.sizes layout.cleared) }
-    ensures found { FoundAmong (C.flash chip.old) layout.sizes layout.cleared claimed sector.0 result }
+// The slot in which a sector lives, if it is written.
+pub fn live_slot<C: Chip>(chip: &mut C, log: Log, sector: Sector) -> Option<Slot>
+    requires ready { Ready (C.flash chip.old) log.layout.sizes log.layout.cleared }
+    requires inside { log.claimed ≤ positions log.layout.sizes log.layout.cleared }
+    ensures among { FoundAmong (C.flash chip.old) log.layout.sizes log.layout.cleared log.claimed sector.0 result }
+    ensures found { log.claimed ≡ claimed_of (C.flash chip.old) log.layout.sizes log.layout.cleared → Found (C.flash chip.old) log.layout.sizes log.layout.cleared sector.0 result }
     ensures keeps { C.flash chip.new ≡ C.flash chip.old }
 {
-    let mut walk = Walk::from_newest(claimed);
-    while let Some(visit) = walk.back(chip, layout) {
+    let mut walk = Walk::from_newest(log);
+    while let Some(visit) = walk.back(chip, log) {
         if visit.hits(sector) {
-            return Some(slot_at(layout, visit.position));
+            return Some(Position(visit.position).slot(log.layout));
         }
     }
     None
 }
 
-// The slot in which a sector lives, if it is written.
-pub fn live_slot<C: Chip>(
-    chip: &mut C,
-    layout: Layout,
-    claimed: u16,
-    sector: Sector,
-) -> Option<Slot>
-    requires { (Ready (C.flash chip.old) layout.sizes layout.cleared) × (claimed ≡ claimed_of (C.flash chip.old) layout.sizes layout.cleared) }
-    ensures found { Found (C.flash chip.old) layout.sizes layout.cleared sector.0 result }
+// Which of the first seven positions are live: the last slot that counts for the sector of such a one is itself.
+pub fn live_front<C: Chip>(chip: &mut C, log: Log) -> [bool; 7]
+    requires ready { Ready (C.flash chip.old) log.layout.sizes log.layout.cleared }
+    requires inside { log.claimed ≤ positions log.layout.sizes log.layout.cleared }
+    ensures among { LiveFrontAmong (C.flash chip.old) log.layout.sizes log.layout.cleared log.claimed result }
+    ensures live { log.claimed ≡ claimed_of (C.flash chip.old) log.layout.sizes log.layout.cleared → LiveFront (C.flash chip.old) log.layout.sizes log.layout.cleared result }
     ensures keeps { C.flash chip.new ≡ C.flash chip.old }
 {
-    live_slot_among(chip, layout, claimed, sector)
-}
-
-// Which of the first seven positions are live among the first `claimed` slots: the last of these that counts for the
-// sector of such a one is itself.
-pub fn live_front_among<C: Chip>(chip: &mut C, layout: Layout, claimed: u16) -> [bool; 7]
-    requires { (Ready (C.flash chip.old) layout.sizes layout.cleared) × (claimed ≤ positions layout.sizes layout.cleared) }
-    ensures live { LiveFrontAmong (C.flash chip.old) layout.sizes layout.cleared claimed result }
-    ensures keeps { C.flash chip.new ≡ C.flash chip.old }
-{
-    let mut front = Front::before(directory_of(chip, layout, 0));
-    let mut walk = Walk::from_newest(claimed);
-    while let Some(visit) = walk.back(chip, layout) {
+    let descriptors = directory_of(chip, log.layout, Position(0));
+    let mut front = Front::before(descriptors);
+    let mut walk = Walk::from_newest(log);
+    while let Some(visit) = walk.back(chip, log) {
         front.note(visit);
     }
     front.own_places()
 }
 
-// Which of the first seven positions are live: the last slot that counts for the sector of such a one is itself.
-pub fn live_front<C: Chip>(chip: &mut C, layout: Layout, claimed: u16) -> [bool; 7]
-    requires { (Ready (C.flash chip.old) layout.sizes layout.cleared) × (claimed ≡ claimed_of (C.flash chip.old) layout.sizes layout.cleared) }
-    ensures live { LiveFront (C.flash chip.old) layout.sizes layout.cleared result }
-    ensures keeps { C.flash chip.new ≡ C.flash chip.old }
-{
-    live_front_among(chip, layout, claimed)
-}
-
-// How many sectors are written among the first `claimed` slots.
-pub fn written_among<C: Chip>(chip: &mut C, layout: Layout, claimed: u16) -> u16
-    requires { (Ready (C.flash chip.old) layout.sizes layout.cleared) × ((claimed ≤ positions layout.sizes layout.cleared) × (layout.sizes.sectors ≤ 28644)) }
-    ensures count { result ≡ written_first (C.flash chip.old) layout.sizes layout.cleared claimed }
-    ensures keeps { C.flash chip.new ≡ C.flash chip.old }
-{
-    let mut written = Marks::none();
-    let mut walk = Walk::from_newest(claimed);
-    while let Some(visit) = walk.back(chip, layout) {
-        written.note(visit, layout.sizes.sectors);
-    }
-    written.count_below(layout.sizes.sectors)
-}
-
 // How many sectors are written.
-pub fn written_sectors<C: Chip>(chip: &mut C, layout: Layout, claimed: u16) -> u16
-    requires { (Ready (C.flash chip.old) layout.sizes layout.cleared) × ((claimed ≡ claimed_of (C.flash chip.old) layout.sizes layout.cleared) × (layout.sizes.sectors ≤ 28644)) }
-    ensures count { result ≡ written_in (C.flash chip.old) layout.sizes layout.cleared }
+pub fn written_sectors<C: Chip>(chip: &mut C, log: Log) -> u16
+    requires ready { Ready (C.flash chip.old) log.layout.sizes log.layout.cleared }
+    requires inside { log.claimed ≤ positions log.layout.sizes log.layout.cleared }
+    requires sectors { log.layout.sizes.sectors ≤ 28644 }
+    ensures among { result ≡ written_among (C.flash chip.old) log.layout.sizes log.layout.cleared log.claimed }
+    ensures count { log.claimed ≡ claimed_of (C.flash chip.old) log.layout.sizes log.layout.cleared → result ≡ written_in (C.flash chip.old) log.layout.sizes log.layout.cleared }
     ensures keeps { C.flash chip.new ≡ C.flash chip.old }
 {
-    written_among(chip, layout, claimed)
+    let sectors = log.layout.sizes.sectors;
+    let mut written = Marks::none();
+    let mut walk = Walk::from_newest(log);
+    while let Some(visit) = walk.back(chip, log) {
+        written.note(visit, sectors);
+    }
+    written.count_below(sectors)
 }

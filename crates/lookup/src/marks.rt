@@ -49,7 +49,8 @@ impl Marks {
         }
     }
 
-    // How many numbers below `limit` are in the set.
+    // How many numbers below `limit` are in the set. Counted one by one: of `filter` and `count` over a range a proof
+    // learns how each call of the closure went, and it was not led from there to the count of the definition.
     pub fn count_below(&self, limit: u16) -> u16
         requires { limit ≤ 28672 }
         ensures { result ≡ count (marked self.now.words) limit }

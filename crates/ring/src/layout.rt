@@ -15,6 +15,13 @@ pub struct Layout {
     pub cleared: u32,
 }
 
+// Where a log stands: the layout of its ring, and how many slots are claimed.
+#[derive(Clone, Copy)]
+pub struct Log {
+    pub layout: Layout,
+    pub claimed: u16,
+}
+
 // How many turns after block `from` block `to` comes, in a ring of `ring` blocks.
 fn turns_between(from: u16, to: u16, ring: u16) -> u16
     requires { (from < ring) × ((to < ring) × (ring ≤ 4096)) }

@@ -1,11 +1,14 @@
 -- The slot is noted for the positions so far.
-use Rattle.std.proofs.Common.{◌≡◌, ℕ, ◌<◌, ◌≤◌, get_or, None}
-use Rattle.lookup.specs.Fronts.{sector_of}
+use Rattle.std.proofs.Common.{◌≡◌, ℕ, ◌<◌, ◌≤◌, length}
+use Rattle.lookup.specs.Fronts.{place_at}
 use Rattle.lookup.specs.Walks.{hits, or_here}
 use Rattle.lookup.proofs.front.Front.note.Given as goal
 
-abbrev pub invariant-loop-j : goal.invariant-loop-j
-invariant-loop-j l =
-    (l.self.descriptors ≡ l.initial.self.descriptors)
-    × ((k : ℕ) → k < l.j → get_or l.self.latest k None ≡ or_here (get_or l.initial.self.latest k None) (hits l.visit (sector_of l.initial.self.descriptors k)) l.visit.position)
-    × ((k : ℕ) → l.j ≤ k → get_or l.self.latest k None ≡ get_or l.initial.self.latest k None)
+abbrev pub invariant-loop-place : goal.invariant-loop-place
+invariant-loop-place l =
+    let old = l.initial.place-items in
+    record {
+      whole : length l.place-items ≡ 7;
+      noted : (k : ℕ) → k < l.place-index → ((place_at l.place-items k).sector ≡ (place_at old k).sector) × ((place_at l.place-items k).latest ≡ or_here (place_at old k).latest (hits l.visit (place_at old k).sector.0) l.visit.position);
+      rest : (k : ℕ) → l.place-index ≤ k → place_at l.place-items k ≡ place_at old k;
+    }
