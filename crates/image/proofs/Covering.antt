@@ -17,33 +17,25 @@ pub tells_part : {P Q : Type 0} (r : Bool) → r ≡ false → (Q → P) → Tel
 tells_part true e g h = absurd (let w : ◌≡◌ {A = ℕ} 0 1 = cc in omega arith)
 tells_part false e g h = λ q. h (g q)
 
--- blocks and slots that are those of two positions
-module _ (s : Flash) (z : Sizes) (c q p u l i j : ℕ) (above : u ≡ chip_block z (block_at z c q)) (below : l ≡ chip_block z (block_at z c p)) (up : i ≡ q % 7) (low : j ≡ p % 7) where
-  there : (P : ℕ → ℕ → ℕ → ℕ → Type 0) → P u l i j → P (chip_block z (block_at z c q)) (chip_block z (block_at z c p)) (q % 7) (p % 7)
-  there P h =
-      subst (λ n. P (chip_block z (block_at z c q)) (chip_block z (block_at z c p)) (q % 7) n) low
-      (subst (λ n. P (chip_block z (block_at z c q)) (chip_block z (block_at z c p)) n j) up
-      (subst (λ n. P (chip_block z (block_at z c q)) n i j) below (subst (λ n. P n l i j) above h)))
+-- blocks and offsets that are the same
+same_places : (P : ℕ → ℕ → ℕ → ℕ → Type 0) {u l a b v m c d : ℕ} → u ≡ v → l ≡ m → a ≡ c → b ≡ d → P u l a b → P v m c d
+same_places P {u} {l} {a} {b} {v} {m} {c} {d} e f g h x =
+    subst (λ n. P v m c n) h (subst (λ n. P v m n b) g (subst (λ n. P v n a b) f (subst (λ n. P n l a b) e x)))
 
-  back : (P : ℕ → ℕ → ℕ → ℕ → Type 0) → P (chip_block z (block_at z c q)) (chip_block z (block_at z c p)) (q % 7) (p % 7) → P u l i j
-  back P h =
-      subst (λ n. P n l i j) (sym above)
-      (subst (λ n. P (chip_block z (block_at z c q)) n i j) (sym below)
-      (subst (λ n. P (chip_block z (block_at z c q)) (chip_block z (block_at z c p)) n j) (sym up)
-      (subst (λ n. P (chip_block z (block_at z c q)) (chip_block z (block_at z c p)) (q % 7) n) (sym low) h)))
-
-  pub covering : Above s u l (4 * i + 1) (4 * j + 1) 2 → Above s u l (512 * (i + 1)) (512 * (j + 1)) 512 → Covers s z c q p
+-- blocks and offsets that are those of two positions
+module _ (s : Flash) (z : Sizes) (c q p u l a b m n : ℕ) (above : u ≡ chip_block z (block_at z c q)) (below : l ≡ chip_block z (block_at z c p)) (up : a ≡ 4 * (q % 7)) (low : b ≡ 4 * (p % 7)) (top : m ≡ 512 * (q % 7 + 1)) (bottom : n ≡ 512 * (p % 7 + 1)) where
+  pub covering : Above s u l (a + 1) (b + 1) 2 → Above s u l m n 512 → Covers s z c q p
   covering number page = record {
     number = λ k lt.
         moved s _ _ (4 * (q % 7) + 1 + k) (4 * (q % 7) + (k + 1)) (4 * (p % 7) + 1 + k) (4 * (p % 7) + (k + 1)) (omega arith) (omega arith)
-        (there (λ a b m n. Above s a b (4 * m + 1) (4 * n + 1) 2) number k lt);
-    page = there (λ a b m n. Above s a b (512 * (m + 1)) (512 * (n + 1)) 512) page;
+        (same_places (λ v w i j. Above s v w (i + 1) (j + 1) 2) above below up low number k lt);
+    page = same_places (λ v w i j. Above s v w i j 512) above below top bottom page;
   }
 
-  pub number_of : Covers s z c q p → Above s u l (4 * i + 1) (4 * j + 1) 2
+  pub number_of : Covers s z c q p → Above s u l (a + 1) (b + 1) 2
   number_of h =
-      back (λ a b m n. Above s a b (4 * m + 1) (4 * n + 1) 2)
+      same_places (λ v w i j. Above s v w (i + 1) (j + 1) 2) (sym above) (sym below) (sym up) (sym low)
       (λ k lt. moved s _ _ (4 * (q % 7) + (k + 1)) (4 * (q % 7) + 1 + k) (4 * (p % 7) + (k + 1)) (4 * (p % 7) + 1 + k) (omega arith) (omega arith) (h.number k lt))
 
-  pub page_of : Covers s z c q p → Above s u l (512 * (i + 1)) (512 * (j + 1)) 512
-  page_of h = back (λ a b m n. Above s a b (512 * (m + 1)) (512 * (n + 1)) 512) h.page
+  pub page_of : Covers s z c q p → Above s u l m n 512
+  page_of h = same_places (λ v w i j. Above s v w i j 512) (sym above) (sym below) (sym top) (sym bottom) h.page

@@ -11,7 +11,7 @@ use Rattle.ring.specs.Rules as rules
 use Rattle.ring.specs.Rules.{Breach, Lawful}
 use Rattle.ring.proofs.Searching.{least_is}
 use Rattle.image.specs.declared.flaw.Broken.{Broken}
-use Rattle.image.specs.declared.verdict.Log.{Log}
+use Rattle.ring.specs.declared.layout.Log.{Log}
 use Rattle.image.specs.Flaws.{label_flaw, rule_flaw}
 use Rattle.image.specs.Fronts.{front_page, LabelledBy}
 use Rattle.image.specs.Checks.{KeptFrom, Lowest}

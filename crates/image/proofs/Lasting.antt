@@ -3,13 +3,13 @@ use Rattle.std.proofs.Common.{◌≡◌, ℕ, ◌+◌, ◌<◌, ◌≤◌, Bool,
 use Rattle.std.proofs.lemmas.Bool.{both_ways, or_cases, eqb-true}
 use Rattle.chip.specs.Flash.{Flash}
 use Rattle.label.specs.declared.Sizes.{Sizes}
-use Rattle.ring.specs.Searches.{least, count}
+use Rattle.ring.specs.Searches.{count}
 use Rattle.ring.specs.Tally.{begun}
 use Rattle.ring.specs.Places.{positions, slot_at, flags_at}
 use Rattle.ring.specs.Logs.{ends, unclosed_copy, claimed, unclaimed}
 use Rattle.ring.specs.Rules as rules
 use Rattle.ring.specs.Rules.{At, LastIs, Unended, Crowded, Astray, Copying, Breach, Kept, live_front, first_live}
-use Rattle.ring.proofs.Searching.{count_same, least_same}
+use Rattle.ring.proofs.Searching.{count_same}
 use Rattle.lookup.specs.Answers.{LiveFront}
 use Rattle.image.proofs.Breaches.{of_group, of_room, of_copy}
 use Rattle.image.specs.Checks.{KeptFrom, Lowest}
@@ -17,9 +17,6 @@ use Rattle.image.specs.Checks.{KeptFrom, Lowest}
 -- what is live in front, counted and searched in the array that says it
 pub front_count : (s : Flash) (z : Sizes) (c : ℕ) (front : List Bool) → LiveFront s z c front → count (λ j. get_or front j false) 7 ≡ live_front s z c
 front_count s z c front h = count_same _ _ 7 h
-
-pub front_first : (s : Flash) (z : Sizes) (c : ℕ) (front : List Bool) → LiveFront s z c front → least (λ j. get_or front j false) 7 ≡ first_live s z c
-front_first s z c front h = least_same _ _ 7 h
 
 -- a slot that ends a group is no unclosed copy
 pub ended_closed : (f : ℕ) → ends f ≡ true → unclosed_copy f ≡ false

@@ -7,3 +7,4 @@ pub mod Joining
 pub mod Examining
 pub mod Showing
 pub mod Bounds
+pub mod Sevens

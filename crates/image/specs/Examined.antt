@@ -11,7 +11,7 @@ use Rattle.ring.specs.Rules.{Lawful}
 use Rattle.image.specs.declared.flaw.Broken.{Broken}
 use Rattle.image.specs.declared.flaw.Flaw.{Flaw}
 use Rattle.image.specs.declared.flaw.Flaw.TheVariants.{NoPower, Label, Rule}
-use Rattle.image.specs.declared.verdict.Log.{Log}
+use Rattle.ring.specs.declared.layout.Log.{Log}
 use Rattle.image.specs.Fronts.{front_page, LabelledBy}
 use Rattle.image.specs.Checks.{KeptFrom, Lowest}
 
@@ -28,9 +28,9 @@ Laid s z (Ok l) = (l.sizes ≡ z) × (l.cleared ≡ cleared s z.tally) × KeptFr
 Laid s z (Err x) = Lowest s z (cleared s z.tally) 1 1 x
 
 -- so many slots are claimed, where the rules from the second on are kept
-abbrev pub Counted : Flash → Sizes → ℕ → Result ℕ Broken → Type 0
-Counted s z c (Ok m) = m ≡ logs.claimed s z c
-Counted s z c (Err x) = Unit {0}
+abbrev pub Counted : Flash → Layout → Result Log Broken → Type 0
+Counted s l (Ok log) = (log.layout ≡ l) × (log.claimed ≡ logs.claimed s l.sizes l.cleared)
+Counted s l (Err x) = Unit {0}
 
 -- an image that keeps all rules, and where its log stands
 pub record Sound (s : Flash) (log : Log) : Type 0 where

@@ -4,3 +4,4 @@ pub mod Flaws
 pub mod Checks
 pub mod Examined
 pub mod Surveys
+pub mod Sevens

@@ -7,7 +7,7 @@ use Rattle.ring.specs.Logs as logs
 use Rattle.ring.specs.Logs.{holds, log_of}
 use Rattle.ring.specs.Turns.{Ready}
 use Rattle.lookup.specs.Answers as lookups
-use Rattle.image.specs.declared.verdict.Log.{Log}
+use Rattle.ring.specs.declared.layout.Log.{Log}
 use Rattle.image.specs.declared.survey.Survey.{Survey}
 
 -- a log stands on a chip as an examination found it

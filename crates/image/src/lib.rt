@@ -12,7 +12,5 @@ mod verdict;
 
 pub use self::flaw::{Broken, Flaw};
 pub use self::seven::first_of;
-pub use self::survey::{
-    Survey, find_among, find_sector, read_sector, read_slot, survey_among, survey_image,
-};
-pub use self::verdict::{Log, examine};
+pub use self::survey::{Survey, find_sector, read_sector, read_slot, survey_image};
+pub use self::verdict::examine;

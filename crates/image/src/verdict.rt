@@ -13,16 +13,9 @@ use crate::slots::{check_bytes, check_slots};
 use chip::Chip;
 use label::Sizes;
 use lookup::live_front;
-use ring::layout::Layout;
+use ring::layout::{Layout, Log};
 use rules::claimed_slots;
 use tally::{Disorder, read_tally};
-
-// Where the log of a sound image stands: the layout of its ring, and how many slots are claimed.
-#[derive(Clone, Copy)]
-pub struct Log {
-    pub layout: Layout,
-    pub claimed: u16,
-}
 
 // The layout that label and tally give, where the tally keeps its rule.
 fn read_layout<C: Chip>(chip: &mut C, sizes: Sizes) -> Result<Layout, Broken>
@@ -43,18 +36,21 @@ fn read_layout<C: Chip>(chip: &mut C, sizes: Sizes) -> Result<Layout, Broken>
 }
 
 // Checks rules 2 to 9, and counts the claimed slots.
-fn check_log<C: Chip>(chip: &mut C, layout: Layout) -> Result<u16, Broken>
+fn check_log<C: Chip>(chip: &mut C, layout: Layout) -> Result<Log, Broken>
     requires { Ready (C.flash chip.old) layout.sizes layout.cleared }
     ensures checked { Checked (C.flash chip.old) layout.sizes layout.cleared 2 9 result }
-    ensures counted { Counted (C.flash chip.old) layout.sizes layout.cleared result }
+    ensures counted { Counted (C.flash chip.old) layout result }
     ensures keeps { C.flash chip.new ≡ C.flash chip.old }
 {
     check_bytes(chip, layout)?;
-    let claimed = claimed_slots(chip, layout);
-    check_slots(chip, layout, claimed)?;
-    let front = live_front(chip, layout, claimed);
-    check_last(chip, layout, claimed, front)?;
-    Ok(claimed)
+    let log = Log {
+        layout,
+        claimed: claimed_slots(chip, layout),
+    };
+    check_slots(chip, log)?;
+    let front = live_front(chip, log);
+    check_last(chip, log, front)?;
+    Ok(log)
 }
 
 // Examines the image on a chip. It writes nothing.
@@ -68,6 +64,6 @@ pub fn examine<C: Chip>(chip: &mut C) -> Result<Log, Flaw>
     }
     let sizes = read_sizes(chip)?;
     let layout = read_layout(chip, sizes)?;
-    let claimed = check_log(chip, layout)?;
-    Ok(Log { layout, claimed })
+    let log = check_log(chip, layout)?;
+    Ok(log)
 }

@@ -20,4 +20,4 @@ pub struct Position(pub u16);
 pub mod directory;
 pub mod flags;
 pub mod layout;
-mod place;
+pub mod place;

@@ -1,12 +1,12 @@
 // Where a position of the log lies.
 ghost use Rattle.std.specs.Prelude.{◌≡◌, ◌+◌, ◌*◌, ◌/◌, ◌%◌, ◌<◌};
-ghost use Rattle.ring.specs.Places.{chip_block, block_at, slot_at};
-ghost use Rattle.ring.specs.Turns.{Shaped};
+ghost use Rattle.ring.specs.Places.{chip_block, block_at, slot_at, flags_at};
+ghost use Rattle.ring.specs.Turns.{Shaped, Ready};
 
 use crate::directory::{DESCRIPTOR, SLOTS};
 use crate::layout::Layout;
 use crate::{Position, RingBlock, Slot};
-use chip::{Block, PAGE};
+use chip::{Block, Chip, PAGE, fetch};
 
 impl Position {
     // The ring's block in which it lies.
@@ -61,4 +61,14 @@ impl Position {
     {
         PAGE * (self.index() + 1)
     }
+}
+
+// The flags of the slot at a position.
+pub fn read_flags<C: Chip>(chip: &mut C, layout: Layout, at: Position) -> u8
+    requires { Ready (C.flash chip.old) layout.sizes layout.cleared }
+    ensures flags { result ≡ flags_at (C.flash chip.old) layout.sizes layout.cleared at.0 }
+    ensures keeps { C.flash chip.new ≡ C.flash chip.old }
+{
+    let [flags] = fetch::<C, 1>(chip, at.block(layout), at.descriptor());
+    flags
 }

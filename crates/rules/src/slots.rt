@@ -14,7 +14,7 @@ use crate::unclaimed::is_unclean;
 use chip::Chip;
 use ring::directory::{Descriptor, SLOTS};
 use ring::flags::{is_legal, is_numbered};
-use ring::layout::Layout;
+use ring::layout::{Layout, Log};
 use ring::{Position, RingBlock, Slot};
 
 // A rule about slots.
@@ -104,23 +104,23 @@ pub fn illegal_slot<C: Chip>(chip: &mut C, layout: Layout) -> Option<Slot>
 }
 
 // The first slot behind the `claimed` ones that is not erased.
-pub fn unclean_slot<C: Chip>(chip: &mut C, layout: Layout, claimed: u16) -> Option<Slot>
-    requires ready { Ready (C.flash chip.old) layout.sizes layout.cleared }
-    requires count { claimed ≡ claimed_of (C.flash chip.old) layout.sizes layout.cleared }
-    ensures first { FirstSlot (At layout.sizes layout.cleared (slot_at layout.sizes layout.cleared) (Unclean (C.flash chip.old) layout.sizes layout.cleared)) result }
+pub fn unclean_slot<C: Chip>(chip: &mut C, log: Log) -> Option<Slot>
+    requires ready { Ready (C.flash chip.old) log.layout.sizes log.layout.cleared }
+    requires count { log.claimed ≡ claimed_of (C.flash chip.old) log.layout.sizes log.layout.cleared }
+    ensures first { FirstSlot (At log.layout.sizes log.layout.cleared (slot_at log.layout.sizes log.layout.cleared) (Unclean (C.flash chip.old) log.layout.sizes log.layout.cleared)) result }
     ensures keeps { C.flash chip.new ≡ C.flash chip.old }
 {
-    first_slot(chip, layout, Rule::Clean(claimed))
+    first_slot(chip, log.layout, Rule::Clean(log.claimed))
 }
 
 // The first of the `claimed` slots that is out of order.
-pub fn misplaced_slot<C: Chip>(chip: &mut C, layout: Layout, claimed: u16) -> Option<Slot>
-    requires ready { Ready (C.flash chip.old) layout.sizes layout.cleared }
-    requires count { claimed ≡ claimed_of (C.flash chip.old) layout.sizes layout.cleared }
-    ensures first { FirstSlot (At layout.sizes layout.cleared (slot_at layout.sizes layout.cleared) (Misplaced (C.flash chip.old) layout.sizes layout.cleared)) result }
+pub fn misplaced_slot<C: Chip>(chip: &mut C, log: Log) -> Option<Slot>
+    requires ready { Ready (C.flash chip.old) log.layout.sizes log.layout.cleared }
+    requires count { log.claimed ≡ claimed_of (C.flash chip.old) log.layout.sizes log.layout.cleared }
+    ensures first { FirstSlot (At log.layout.sizes log.layout.cleared (slot_at log.layout.sizes log.layout.cleared) (Misplaced (C.flash chip.old) log.layout.sizes log.layout.cleared)) result }
     ensures keeps { C.flash chip.new ≡ C.flash chip.old }
 {
-    first_slot(chip, layout, Rule::Ordered(claimed))
+    first_slot(chip, log.layout, Rule::Ordered(log.claimed))
 }
 
 // The first slot whose sector number is not one of the volume's.

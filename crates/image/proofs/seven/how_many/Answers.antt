@@ -3,7 +3,7 @@ use Rattle.std.proofs.Common.{◌≡◌, ℕ, ◌+◌, ◌≤◌, Bool, true, fa
 use Rattle.ring.specs.Searches.{count}
 use Rattle.ring.proofs.Searching.{count_none, count_more}
 use Rattle.image.proofs.seven.how_many.Goals as goal
-use Rattle.image.proofs.seven.how_many.Goals.{then-front-j, else-front-j}
+use Rattle.image.proofs.seven.how_many.Goals.{then-live, else-live}
 
 counted : (f : ℕ → Bool) (j n m : ℕ) → n ≡ count f j → n ≤ j → ((f j ≡ true) × (m ≡ n + 1)) ⊎ ((f j ≡ false) × (m ≡ n)) → (m ≡ count f (j + 1)) × (m ≤ j + 1)
 counted f j n m e le way =
@@ -12,15 +12,15 @@ counted f j n m e le way =
     (λ w. (w.1 ∙ e ∙ sym (count_more f j ∙ ap (λ b. count f j + cond b 1 0) w.0 ∙ add-zero (count f j)), omega (arith, w.1)))
     way
 
-pub loop-j-init : goal.loop-j-init
-loop-j-init c = (sym (count_none _), omega arith)
+pub loop-live-init : goal.loop-live-init
+loop-live-init c = (sym (count_none _), omega arith)
 
-pub loop-j-preserved : goal.loop-j-preserved
-loop-j-preserved c =
-    counted _ c.loop-j.j c.loop-j.n c.if-front-j.n c.loop-j.invariant.0 c.loop-j.invariant.1
-    (elim c.if-front-j.branch [ then-front-j w ↦ inl (w.if-front-j.true, w.n-is) | else-front-j w ↦ inr (w.if-front-j.false, w.n-is) ])
+pub loop-live-preserved : goal.loop-live-preserved
+loop-live-preserved c =
+    counted _ c.loop-live.live-index c.loop-live.n c.if-live.n c.loop-live.invariant.0 c.loop-live.invariant.1
+    (elim c.if-live.branch [ then-live w ↦ inl (w.if-live.true, w.n-is) | else-live w ↦ inr (w.if-live.false, w.n-is) ])
 
 pub returns : goal.returns
 returns c =
-    let all : c.loop-j.j ≡ 7 = omega arith in
-    c.loop-j.invariant.0 ∙ ap (count _) all
+    let all : c.loop-live.live-index ≡ 7 = omega arith in
+    c.loop-live.invariant.0 ∙ ap (count _) all

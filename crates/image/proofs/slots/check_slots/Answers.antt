@@ -18,8 +18,8 @@ returns-in-Some g c = record {
 pub returns-in-Some-misplaced_slot : goal.returns-in-Some-misplaced_slot
 returns-in-Some-misplaced_slot g c =
     let s = g.C.Chip.flash c.args.chip.now in
-    let z = c.args.layout.sizes in
-    let n = c.args.layout.cleared in
+    let z = c.args.log.layout.sizes in
+    let n = c.args.log.layout.cleared in
     let kept = c.unclean_slot.ensures.keeps in
     let blank = kept_first _ 4 (of_blank s z n) c.in_default.ensures.first in
     let first = subst (λ (x : Flash). First (At z n (slot_at z n) (Misplaced x z n)) (Some c.in-Some-misplaced_slot.slot.0)) kept c.in-Some-misplaced_slot.ensures.first in
@@ -31,8 +31,8 @@ returns-in-Some-misplaced_slot g c =
 pub returns-in-Some-beyond_slot : goal.returns-in-Some-beyond_slot
 returns-in-Some-beyond_slot g c =
     let s = g.C.Chip.flash c.args.chip.now in
-    let z = c.args.layout.sizes in
-    let n = c.args.layout.cleared in
+    let z = c.args.log.layout.sizes in
+    let n = c.args.log.layout.cleared in
     let kept = c.unclean_slot.ensures.keeps in
     let blank = kept_first _ 4 (of_blank s z n) c.in_default.ensures.first in
     let order = kept_first _ 5 (of_order s z n) (subst (λ (x : Flash). First (At z n (slot_at z n) (Misplaced x z n)) None) kept c.in_default-misplaced_slot.ensures.first) in
@@ -46,8 +46,8 @@ returns-in-Some-beyond_slot g c =
 pub returns : goal.returns
 returns g c =
     let s = g.C.Chip.flash c.args.chip.now in
-    let z = c.args.layout.sizes in
-    let n = c.args.layout.cleared in
+    let z = c.args.log.layout.sizes in
+    let n = c.args.log.layout.cleared in
     let kept = c.unclean_slot.ensures.keeps in
     let blank = kept_first _ 4 (of_blank s z n) c.in_default.ensures.first in
     let order = kept_first _ 5 (of_order s z n) (subst (λ (x : Flash). First (At z n (slot_at z n) (Misplaced x z n)) None) kept c.in_default-misplaced_slot.ensures.first) in
