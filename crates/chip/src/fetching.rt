@@ -8,7 +8,8 @@ use crate::{Block, Chip, ERASED, Span};
 pub fn fetch_into<C: Chip>(chip: &mut C, block: Block, at: usize, into: &mut [u8])
     requires power { (C.flash chip.old).on ≡ true }
     requires within { Within (C.flash chip.old).blocks block.0 at (length into.old) (length into.old) }
-    ensures bytes { (k : ℕ) → k < length into.old → slice_index into.new k ≡ (C.flash chip.old).byte block.0 (at + k) }
+    ensures same { (k : ℕ) → k < length into.old → slice_index into.new k ≡ (C.flash chip.old).byte block.0 (at + k) }
+    ensures bytes { (k : ℕ) → k < length into.old → (C.flash chip.old).byte block.0 (at + k) < 256 }
     ensures keeps { C.flash chip.new ≡ C.flash chip.old }
 {
     let len = into.len();
@@ -19,7 +20,8 @@ pub fn fetch_into<C: Chip>(chip: &mut C, block: Block, at: usize, into: &mut [u8
 pub fn fetch<C: Chip, const N: usize>(chip: &mut C, block: Block, at: usize) -> [u8; N]
     requires power { (C.flash chip.old).on ≡ true }
     requires within { Within (C.flash chip.old).blocks block.0 at N N }
-    ensures bytes { (k : ℕ) → k < N → slice_index result k ≡ (C.flash chip.old).byte block.0 (at + k) }
+    ensures same { (k : ℕ) → k < N → slice_index result k ≡ (C.flash chip.old).byte block.0 (at + k) }
+    ensures bytes { (k : ℕ) → k < N → (C.flash chip.old).byte block.0 (at + k) < 256 }
     ensures keeps { C.flash chip.new ≡ C.flash chip.old }
 {
     let mut bytes = [ERASED; N];

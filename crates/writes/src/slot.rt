@@ -1,14 +1,12 @@
 // Slots as they are written: puts, the ends of batches, and copies.
-ghost use Rattle.std.specs.Prelude.{◌≡◌, ◌<◌, length};
 ghost use Rattle.chip.specs.Plans.{Performs};
 ghost use Rattle.ring.specs.Turns.{Ready};
 ghost use Rattle.laid.specs.Writing.{putting, closing, dropping, copying, finishing};
 
-use crate::Position;
 use crate::step::{fill, mark, number};
-use chip::{Chip, Fault};
-use ring::Sector;
+use chip::{Chip, Fault, PAGE};
 use ring::layout::Layout;
+use ring::{Position, Sector};
 
 // The masks of the flags: each clears one bit.
 const CLAIMED_PUT: u8 = 0x7F;
@@ -27,9 +25,9 @@ pub fn put_slot<C: Chip>(
     layout: Layout,
     at: Position,
     sector: Sector,
-    page: &[u8],
+    page: &[u8; PAGE],
 ) -> Result<(), Fault>
-    requires { (Ready (C.flash chip.old) layout.sizes layout.cleared) × (length page.now ≡ 512) }
+    requires { Ready (C.flash chip.old) layout.sizes layout.cleared }
     ensures { Performs (putting layout.sizes layout.cleared at.0 sector.0 page.now) (C.flash chip.old) result (C.flash chip.new) }
 {
     mark(chip, layout, at, CLAIMED_PUT)?;
@@ -60,9 +58,9 @@ pub fn finish_copy<C: Chip>(
     layout: Layout,
     at: Position,
     sector: Sector,
-    page: &[u8],
+    page: &[u8; PAGE],
 ) -> Result<(), Fault>
-    requires { (Ready (C.flash chip.old) layout.sizes layout.cleared) × (length page.now ≡ 512) }
+    requires { Ready (C.flash chip.old) layout.sizes layout.cleared }
     ensures { Performs (finishing layout.sizes layout.cleared at.0 sector.0 page.now) (C.flash chip.old) result (C.flash chip.new) }
 {
     number(chip, layout, at, sector)?;
@@ -77,9 +75,9 @@ pub fn copy_slot<C: Chip>(
     layout: Layout,
     at: Position,
     sector: Sector,
-    page: &[u8],
+    page: &[u8; PAGE],
 ) -> Result<(), Fault>
-    requires { (Ready (C.flash chip.old) layout.sizes layout.cleared) × (length page.now ≡ 512) }
+    requires { Ready (C.flash chip.old) layout.sizes layout.cleared }
     ensures { Performs (copying layout.sizes layout.cleared at.0 sector.0 page.now) (C.flash chip.old) result (C.flash chip.new) }
 {
     mark(chip, layout, at, CLAIMED_COPY)?;

@@ -4,10 +4,9 @@ ghost use Rattle.chip.specs.Steps.{Answers};
 ghost use Rattle.ring.specs.Turns.{Shaped};
 ghost use Rattle.laid.specs.Writing.{mark as marking, number as numbering, fill as filling, clearing};
 
-use crate::Position;
-use chip::{Block, Chip, Fault, PAGE, Span};
-use ring::Sector;
+use chip::{BLOCK, Block, Chip, Fault, PAGE, Span};
 use ring::layout::Layout;
+use ring::{Position, Sector};
 
 // Clears the bits of a slot's flags that the mask lacks.
 pub fn mark<C: Chip>(chip: &mut C, layout: Layout, at: Position, mask: u8) -> Result<(), Fault>
@@ -41,7 +40,12 @@ pub fn number<C: Chip>(
 }
 
 // Writes the page of a slot.
-pub fn fill<C: Chip>(chip: &mut C, layout: Layout, at: Position, page: &[u8]) -> Result<(), Fault>
+pub fn fill<C: Chip>(
+    chip: &mut C,
+    layout: Layout,
+    at: Position,
+    page: &[u8; PAGE],
+) -> Result<(), Fault>
     requires { Shaped layout.sizes layout.cleared }
     ensures { Answers (filling layout.sizes layout.cleared at.0 page.now) (C.flash chip.old) result (C.flash chip.new) }
 {
@@ -56,7 +60,7 @@ pub fn fill<C: Chip>(chip: &mut C, layout: Layout, at: Position, page: &[u8]) ->
 // The bits of a byte, and the bytes of a block, as numbers of the tally.
 const BITS: u32 = 8;
 
-const BYTES: u32 = 4096;
+const BYTES: u32 = BLOCK as u32;
 
 // The top bit of a byte, which is the first of its eight.
 const FIRST_BIT: u8 = 0x80;

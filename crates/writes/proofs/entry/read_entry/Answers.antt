@@ -11,14 +11,14 @@ returns g c =
     let p = c.args.at.0 in
     let b = c.block-block.result.0 in
     let there = c.block-block.ensures in
-    let kept = c.fetch.ensures.keeps in
-    let number : Fetched s b (4 * (p % 7) + 1) 2 c.fetch.new.into = rw c.descriptor.ensures at c.fetch.ensures.same in
-    let number-bytes : Bytes s b (4 * (p % 7) + 1) 2 = rw c.descriptor.ensures at c.fetch.ensures.bytes in
-    let page : Fetched s b (512 * (p % 7 + 1)) 512 c.fetch-2.new.into = rw (c.page.ensures, c.requires.1, kept) at c.fetch-2.ensures.same in
-    let page-bytes : Bytes s b (512 * (p % 7 + 1)) 512 = rw (c.page.ensures, c.requires.1, kept) at c.fetch-2.ensures.bytes in
+    let kept = c.fetch-number.ensures.keeps in
+    let number : Fetched s b (4 * (p % 7) + 1) 2 c.fetch-number.result = rw c.descriptor.ensures at c.fetch-number.ensures.same in
+    let number-bytes : Bytes s b (4 * (p % 7) + 1) 2 = rw c.descriptor.ensures at c.fetch-number.ensures.bytes in
+    let page : Fetched s b (512 * (p % 7 + 1)) 512 c.fetch-page.result = rw (c.page.ensures, kept) at c.fetch-page.ensures.same in
+    let page-bytes : Bytes s b (512 * (p % 7 + 1)) 512 = rw (c.page.ensures, kept) at c.fetch-page.ensures.bytes in
     record {
-      number = c.from_le_bytes.ensures ∙ number_is s z n p b there c.fetch.new.into number;
-      page = page_is s z n p b there c.fetch-2.new.into (search rules) page;
+      number = c.from_le_bytes.ensures ∙ number_is s z n p b there c.fetch-number.result number;
+      page = page_is s z n p b there c.fetch-page.result (search rules) page;
       readable = reads s z n p b there number-bytes page-bytes;
-      keeps = c.fetch-2.ensures.keeps ∙ kept;
+      keeps = c.fetch-page.ensures.keeps ∙ kept;
     }

@@ -1,4 +1,5 @@
 -- The claim was answered by an error, or finished before the rest.
+use Rattle.std.proofs.Common.{rules}
 use Rattle.chip.specs.Plans as plans
 use Rattle.chip.proofs.Performed.{stops, performed}
 use Rattle.writes.proofs.Allowing.{a_copy}
@@ -6,7 +7,7 @@ use Rattle.writes.proofs.slot.copy_slot.Goals as goal
 
 pub returns-in_err-mark : goal.returns-in_err-mark
 returns-in_err-mark g c =
-    performed (a_copy c.requires.0 c.args.at.0 c.args.sector.0 _ c.requires.1) c.requires.0.power
+    performed (a_copy c.requires c.args.at.0 c.args.sector.0 _ (search rules)) c.requires.power
     (stops _ c.in_err-mark.ensures c.from_residual.ensures.1)
 
 pub returns : goal.returns
