@@ -11,7 +11,7 @@ use Rattle.ring.proofs.Searching.{least_is, least_same}
 use Rattle.lookup.specs.Answers.{LiveFrontAmong}
 use Rattle.laid.specs.Sane.{Readable}
 use Rattle.laid.specs.Writing.{finishing, dropping}
-use Rattle.image.specs.declared.verdict.Log.{Log}
+use Rattle.ring.specs.declared.layout.Log.{Log}
 use Rattle.upkeep.specs.Repairs as repairs
 use Rattle.upkeep.specs.Repairs.{source_of, last_of, Mended}
 

@@ -8,7 +8,7 @@ use Rattle.label.specs.declared.Sizes.{Sizes}
 use Rattle.ring.specs.Logs.{is_live, log_of}
 use Rattle.ring.specs.Turns.{Ready}
 use Rattle.lookup.specs.Answers.{LiveFrontAmong}
-use Rattle.image.specs.declared.verdict.Log.{Log}
+use Rattle.ring.specs.declared.layout.Log.{Log}
 use Rattle.image.specs.Surveys.{Bounded}
 use Rattle.upkeep.specs.Numbers.{log_at}
 use Rattle.upkeep.specs.Reclaims as reclaims

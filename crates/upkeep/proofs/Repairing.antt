@@ -2,7 +2,7 @@
 use Rattle.std.proofs.Common.{◌≡◌, ℕ, ◌+◌, ◌%◌, List, Ok, sym, subst, arith}
 use Rattle.chip.specs.Flash.{Flash}
 use Rattle.chip.specs.Steps.{Step}
-use Rattle.image.specs.declared.verdict.Log.{Log}
+use Rattle.ring.specs.declared.layout.Log.{Log}
 use Rattle.image.specs.Surveys.{Bounded}
 use Rattle.upkeep.specs.Numbers.{log_at}
 use Rattle.upkeep.specs.Repairs as repairs

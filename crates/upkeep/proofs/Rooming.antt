@@ -4,7 +4,7 @@ use Rattle.chip.specs.declared.Fault.{Fault}
 use Rattle.chip.specs.Flash.{Flash}
 use Rattle.label.specs.declared.Sizes.{Sizes}
 use Rattle.ring.specs.Places.{positions}
-use Rattle.image.specs.declared.verdict.Log.{Log}
+use Rattle.ring.specs.declared.layout.Log.{Log}
 use Rattle.image.specs.Surveys.{Bounded}
 use Rattle.upkeep.specs.declared.room.Room.TheVariants.{Made, Spent}
 use Rattle.upkeep.specs.Numbers.{log_at}

@@ -1,7 +1,7 @@
 -- The numbers of a log.
 use Rattle.std.specs.Prelude.{ℕ}
 use Rattle.label.specs.declared.Sizes.{Sizes}
-use Rattle.image.specs.declared.verdict.Log.{Log}
+use Rattle.ring.specs.declared.layout.Log.{Log}
 
 -- the log on a volume of the sizes z, with c cleared bits of the tally and q claimed slots
 abbrev pub log_at : Sizes → ℕ → ℕ → Log

@@ -2,7 +2,7 @@
 use Rattle.std.specs.Prelude.{◌≡◌, ℕ, ◌+◌, Ok, Err, Result}
 use Rattle.chip.specs.declared.Fault.{Fault}
 use Rattle.chip.specs.Flash.{Flash}
-use Rattle.image.specs.declared.verdict.Log.{Log}
+use Rattle.ring.specs.declared.layout.Log.{Log}
 use Rattle.upkeep.specs.Numbers.{log_at}
 use Rattle.upkeep.specs.Reclaims.{Moves, Reclaims}
 

@@ -11,7 +11,7 @@ use Rattle.ring.specs.Places.{flags_at, sector_at, page_at}
 use Rattle.ring.specs.Logs.{ends, unclosed_copy, is_live, log_of}
 use Rattle.laid.specs.Writing.{rebooking, finishing, dropping}
 use Rattle.laid.specs.Sane.{Readable}
-use Rattle.image.specs.declared.verdict.Log.{Log}
+use Rattle.ring.specs.declared.layout.Log.{Log}
 use Rattle.upkeep.specs.Numbers.{log_at}
 
 -- the first position that is live, of the first seven

@@ -6,10 +6,10 @@ ghost use Rattle.upkeep.specs.Reclaims.{Copies};
 ghost use Rattle.upkeep.specs.Reclaimed.{Moved, Reclaimed};
 
 use chip::{Chip, Fault};
-use image::Log;
-use lookup::live_front_among;
-use ring::layout::Layout;
-use writes::Position;
+use lookup::live_front;
+use ring::Position;
+use ring::directory::SLOTS;
+use ring::layout::{Layout, Log};
 use writes::entry::read_entry;
 use writes::erase::free_oldest;
 use writes::slot::copy_slot;
@@ -24,9 +24,8 @@ fn copy_live<C: Chip>(
     requires { Ready (C.flash chip.old) layout.sizes layout.cleared }
     ensures { Copies (C.flash chip.old) layout.sizes layout.cleared from.0 to.0 result (C.flash chip.new) }
 {
-    let mut page = [0xFF; 512];
-    let sector = read_entry(chip, layout, from, &mut page);
-    copy_slot(chip, layout, to, sector, &page)
+    let entry = read_entry(chip, layout, from);
+    copy_slot(chip, layout, to, entry.sector, &entry.page)
 }
 
 // Copies what is live of the first seven positions to the end of the log, and tells how many slots that took.
@@ -34,10 +33,10 @@ fn move_live<C: Chip>(chip: &mut C, log: Log) -> Result<u16, Fault>
     requires { Bounded (C.flash chip.old) log }
     ensures { Moved (C.flash chip.old) log result (C.flash chip.new) }
 {
-    let front = live_front_among(chip, log.layout, log.claimed);
+    let front = live_front(chip, log);
     let mut copies = 0;
-    for i in 0..7 {
-        if front[i] {
+    for (i, live) in front.iter().enumerate() {
+        if *live {
             let to = Position(log.claimed + copies);
             copy_live(chip, log.layout, Position(i as u16), to)?;
             copies += 1;
@@ -56,12 +55,11 @@ pub fn reclaim<C: Chip>(chip: &mut C, log: Log) -> Result<Log, Fault>
 {
     let copies = move_live(chip, log)?;
     free_oldest(chip, log.layout)?;
-    let freed = Layout {
-        sizes: log.layout.sizes,
-        cleared: log.layout.cleared + 2,
-    };
     Ok(Log {
-        layout: freed,
-        claimed: (log.claimed + copies).saturating_sub(7),
+        layout: Layout {
+            cleared: log.layout.cleared + 2,
+            ..log.layout
+        },
+        claimed: (log.claimed + copies).saturating_sub(SLOTS),
     })
 }

@@ -5,12 +5,13 @@ ghost use Rattle.image.specs.Surveys.{Bounded};
 ghost use Rattle.upkeep.specs.Repairs.{last_of, Mended, Repaired};
 
 use chip::{Chip, Fault};
-use image::{Log, first_of};
-use lookup::live_front_among;
+use image::first_of;
+use lookup::live_front;
+use ring::Position;
 use ring::flags::{ends_group, is_unclosed_copy};
-use ring::layout::Layout;
-use writes::Position;
-use writes::entry::{read_entry, read_flags};
+use ring::layout::{Layout, Log};
+use ring::place::read_flags;
+use writes::entry::read_entry;
 use writes::erase::rebook;
 use writes::slot::{drop_slot, finish_copy};
 
@@ -22,13 +23,12 @@ fn finish_last<C: Chip>(chip: &mut C, log: Log) -> Result<(), Fault>
     requires copy { unclosed_copy (last_of (C.flash chip.old) log.layout.sizes log.layout.cleared log.claimed) ≡ true }
     ensures { Mended (C.flash chip.old) log result (C.flash chip.new) }
 {
-    let source = first_of(live_front_among(chip, log.layout, log.claimed));
-    if source == 7 {
+    let Some(source) = first_of(live_front(chip, log)) else {
         return Ok(());
-    }
-    let mut page = [0xFF; 512];
-    let sector = read_entry(chip, log.layout, Position(source), &mut page);
-    finish_copy(chip, log.layout, Position(log.claimed - 1), sector, &page)
+    };
+    let entry = read_entry(chip, log.layout, source);
+    let last = Position(log.claimed - 1);
+    finish_copy(chip, log.layout, last, entry.sector, &entry.page)
 }
 
 // Ends what the last claimed slot has left open: a copy is finished, and any other group is dropped.
@@ -57,14 +57,11 @@ pub fn repair<C: Chip>(chip: &mut C, log: Log) -> Result<Log, Fault>
 {
     if log.layout.begun() {
         rebook(chip, log.layout)?;
-        let booked = Layout {
-            sizes: log.layout.sizes,
+        let layout = Layout {
             cleared: log.layout.cleared + 1,
+            ..log.layout
         };
-        return Ok(Log {
-            layout: booked,
-            claimed: log.claimed,
-        });
+        return Ok(Log { layout, ..log });
     }
     mend_last(chip, log)?;
     Ok(log)

@@ -5,9 +5,11 @@ ghost use Rattle.upkeep.specs.Roomy.{RoomMade, RoomStands};
 
 use crate::reclaims::reclaim;
 use chip::{Chip, Fault};
-use image::Log;
+use ring::directory::SLOTS;
+use ring::layout::Log;
 
-// Whether there is room, or the tally has no bits left to make it; and where the log then stands.
+// Whether there is room, or the tally has no bits left to make it; and where the log then stands. No `Result`: both ways
+// end well for the chip and hand on a log, and `?` hands on a cut alone.
 #[derive(Clone, Copy)]
 pub enum Room {
     Made(Log),
@@ -24,7 +26,7 @@ pub fn make_room<C: Chip>(chip: &mut C, log: Log, slots: u16) -> Result<Room, Fa
     ensures stands { RoomStands (C.flash chip.new) result }
 {
     let mut log = log;
-    while 7 * log.layout.turns() - log.claimed < slots {
+    while SLOTS * log.layout.turns() - log.claimed < slots {
         if log.layout.cleared >= BITS * u32::from(log.layout.sizes.tally) {
             return Ok(Room::Spent(log));
         }
