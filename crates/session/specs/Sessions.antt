@@ -5,8 +5,8 @@ use Rattle.bench_chip.specs.declared.Plan as bench
 use Rattle.script.specs.declared.Line.{Line}
 use Rattle.script.specs.declared.Line.TheVariants.{Plan, Format}
 use Rattle.script.specs.Script.{Says}
-use Rattle.volume.specs.declared.refusal.Refusal.{Refusal}
-use Rattle.volume.specs.Formats.{Formats}
+use Rattle.engine.specs.declared.refusal.Refusal.{Refusal}
+use Rattle.engine.specs.Formats.{Formats}
 use Rattle.session.specs.declared.reply.Reply.{Reply}
 use Rattle.session.specs.declared.reply.Reply.TheVariants.{Done, Refused, Unknown}
 

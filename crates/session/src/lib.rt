@@ -48,7 +48,7 @@ pub struct Session<C: Chip> {
 
 impl<C: Chip> Session<C> {
     pub fn new(chip: C) -> Self
-        ensures { result.volume.chip ≡ chip }
+        ensures { result.volume.engine.chip ≡ chip }
     {
         Session {
             volume: Volume::new(chip),
@@ -57,7 +57,7 @@ impl<C: Chip> Session<C> {
 
     // Carries out one line. A plan comes too late here: it is only for the first line.
     pub fn serve(&mut self, line: &[u8]) -> Reply
-        ensures { Serves line.now (C.flash self.old.volume.chip) result (C.flash self.new.volume.chip) }
+        ensures { Serves line.now (C.flash self.old.volume.engine.chip) result (C.flash self.new.volume.engine.chip) }
     {
         let Some(said) = read_line(line) else {
             return Reply::Unknown;
