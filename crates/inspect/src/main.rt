@@ -22,10 +22,7 @@ fn describe(rt: &HostRuntime, image: &mut [u8]) -> anyhow::Result<()> {
 
 // Reads a whole file; the error names it.
 fn load(rt: &HostRuntime, file: &str) -> anyhow::Result<Vec<u8>> {
-    match fs::read(rt, file) {
-        Ok(bytes) => Ok(bytes),
-        Err(e) => Err(anyhow!(format!(in rt.alloc(); "cannot read {file}: {e}")?)),
-    }
+    fs::read(rt, file).map_err(|e| anyhow!("cannot read {file}: {e}"))
 }
 
 fn run(rt: &HostRuntime) -> anyhow::Result<()> {
