@@ -26,15 +26,13 @@ fn load(rt: &HostRuntime, file: &str) -> anyhow::Result<Vec<u8>> {
 }
 
 fn run(rt: &HostRuntime) -> anyhow::Result<()> {
-    let words = env::args(rt)?.count();
-    if words < 2 {
+    let files = env::args(rt)?.skip(1).count();
+    if files == 0 {
         return Err(anyhow!("usage: inspect FILE.."));
     }
-    let mut args = env::args(rt)?;
-    let _ = args.next();
-    for file in args {
+    for file in env::args(rt)?.skip(1) {
         let mut bytes = load(rt, file.as_str())?;
-        if words > 2 {
+        if files > 1 {
             println!(rt; "file {file}")?;
         }
         describe(rt, bytes.as_mut_slice())?;
