@@ -1,5 +1,8 @@
 #![tactic(auto)]
 // Runs a script from standard input on a volume over a bench chip of eight erased blocks.
+ghost use Rattle.std.specs.Prelude.{length};
+ghost use Rattle.std.specs.Iterator.{at_most};
+
 use bench_chip::{Bench, Plan};
 use chip::BLOCK;
 use script::next_line;
@@ -10,23 +13,39 @@ const BLOCKS: usize = 8;
 
 const NAME: u16 = 1;
 
-// The plan of the first line, if it gives one, and the text that is left.
-fn plan_first<'a>(text: &'a [u8]) -> Option<(Plan, &'a [u8])> {
-    let (line, rest) = next_line(text)?;
-    Some((plan_of(line)?, rest))
+const WHOLE: Plan = Plan { step: 0, mask: 0 };
+
+// The lines of a text, one after another.
+#[derive(Clone, Copy)]
+struct Lines<'a>(&'a [u8]);
+
+impl<'a> Iterator for Lines<'a> {
+    type Item = &'a [u8];
+
+    ghost remaining = { λ lines. at_most (length lines.0.now) };
+
+    fn next(&mut self) -> Option<&'a [u8]> {
+        let (line, rest) = next_line(self.0)?;
+        self.0 = rest;
+        Some(line)
+    }
 }
 
-// Serves the lines of a text, one after another.
+// The plan of the first line, if it gives one, and the lines that are left.
+fn plan_first<'a>(mut lines: Lines<'a>) -> Option<(Plan, Lines<'a>)> {
+    let plan = plan_of(lines.next()?)?;
+    Some((plan, lines))
+}
+
+// Serves the lines one after another.
 fn serve_all<'a>(
     rt: &HostRuntime,
     session: &mut Session<Bench<'a>>,
-    text: &[u8],
+    lines: Lines<'_>,
 ) -> anyhow::Result<()> {
-    let mut rest = text;
-    while let Some((line, after)) = next_line(rest) {
+    for line in lines {
         let reply = session.serve(line);
         println!(rt; "{reply}")?;
-        rest = after;
     }
     Ok(())
 }
@@ -35,15 +54,14 @@ fn run(rt: &HostRuntime) -> anyhow::Result<()> {
     let mut text = Vec::new(rt.alloc());
     rt.stdin().read_to_end(&mut text)?;
     let mut image = vec![in rt.alloc(); 0xFF; BLOCKS * BLOCK]?;
-    let mut plan = Plan { step: 0, mask: 0 };
-    let mut rest = text.as_slice();
-    if let Some((given, after)) = plan_first(rest) {
+    let all = Lines(text.as_slice());
+    let first = plan_first(all);
+    if first.is_some() {
         println!(rt; "x ok")?;
-        plan = given;
-        rest = after;
     }
+    let (plan, lines) = first.unwrap_or((WHOLE, all));
     let mut session = Session::new(Bench::new(image.as_mut_slice(), NAME, plan));
-    serve_all(rt, &mut session, rest)
+    serve_all(rt, &mut session, lines)
 }
 
 fn main(rt: HostRuntime) -> anyhow::Result<()> {

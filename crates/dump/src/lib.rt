@@ -1,11 +1,20 @@
 #![tactic(auto)]
 // What a flash dump carries, as text.
+use image::{Broken, Survey};
 use label::{Label, LabelFault};
 use std::fmt;
 
 // The line on a label, or on its fault.
 #[derive(Clone, Copy)]
 pub struct LabelLine<'a>(pub Result<Label<'a>, LabelFault>);
+
+// The line on the rule that an image breaks.
+#[derive(Clone, Copy)]
+pub struct RuleLine(pub Broken);
+
+// The lines on a sound image, with its numbers.
+#[derive(Clone, Copy)]
+pub struct SurveyLines(pub Survey);
 
 // Bytes in hex, two capital digits for each.
 #[derive(Clone, Copy)]
@@ -47,5 +56,28 @@ impl fmt::Display for LabelLine<'_> {
             }
             Err(fault) => write!(f, "label fault {}", fault.at),
         }
+    }
+}
+
+impl fmt::Display for RuleLine {
+    fn fmt<W: fmt::Write>(&self, f: &mut fmt::Formatter<W>) -> fmt::Result {
+        let broken = self.0;
+        write!(f, "image rule {} place {}", broken.rule, broken.place)
+    }
+}
+
+impl fmt::Display for SurveyLines {
+    fn fmt<W: fmt::Write>(&self, f: &mut fmt::Formatter<W>) -> fmt::Result {
+        let found = self.0;
+        writeln!(f, "image ok")?;
+        writeln!(
+            f,
+            "tally booked {} begun {} left {}",
+            found.booked,
+            u8::from(found.begun),
+            found.left
+        )?;
+        writeln!(f, "slots unclaimed {}", found.unclaimed)?;
+        write!(f, "sectors written {}", found.written)
     }
 }

@@ -3,7 +3,7 @@ ghost use Rattle.std.specs.Prelude.{◌≡◌};
 ghost use Rattle.image.specs.Surveys.{Standing};
 
 use chip::Chip;
-use dump::Hex;
+use dump::{Hex, RuleLine, SurveyLines};
 use image::{Flaw, Log, examine, find_sector, read_slot, survey_image};
 use ring::Sector;
 
@@ -25,16 +25,7 @@ fn print_sectors<C: Chip>(rt: &HostRuntime, chip: &mut C, log: Log) -> anyhow::R
 fn print_log<C: Chip>(rt: &HostRuntime, chip: &mut C, log: Log) -> anyhow::Result<()>
     requires { Standing (C.flash chip.old) log }
 {
-    let found = survey_image(chip, log);
-    println!(rt; "image ok")?;
-    println!(rt;
-        "tally booked {} begun {} left {}",
-        found.booked,
-        u8::from(found.begun),
-        found.left
-    )?;
-    println!(rt; "slots unclaimed {}", found.unclaimed)?;
-    println!(rt; "sectors written {}", found.written)?;
+    println!(rt; "{}", SurveyLines(survey_image(chip, log)))?;
     print_sectors(rt, chip, log)
 }
 
@@ -43,10 +34,9 @@ pub fn print_image<C: Chip>(rt: &HostRuntime, chip: &mut C) -> anyhow::Result<()
     match examine(chip) {
         Ok(log) => print_log(rt, chip, log),
         Err(Flaw::Rule(broken)) => {
-            println!(rt; "image rule {} place {}", broken.rule, broken.place)?;
+            println!(rt; "{}", RuleLine(broken))?;
             Ok(())
         }
-        Err(Flaw::Label(_)) => Ok(()),
-        Err(Flaw::NoPower) => Ok(()),
+        Err(Flaw::Label(_) | Flaw::NoPower) => Ok(()),
     }
 }

@@ -22,22 +22,17 @@ fn describe(rt: &HostRuntime, image: &mut [u8]) -> anyhow::Result<()> {
 
 // Reads a whole file; the error names it.
 fn load(rt: &HostRuntime, file: &str) -> anyhow::Result<Vec<u8>> {
-    match fs::read(rt, file) {
-        Ok(bytes) => Ok(bytes),
-        Err(e) => Err(anyhow!(format!(in rt.alloc(); "cannot read {file}: {e}")?)),
-    }
+    fs::read(rt, file).map_err(|e| anyhow!("cannot read {file}: {e}"))
 }
 
 fn run(rt: &HostRuntime) -> anyhow::Result<()> {
-    let words = env::args(rt)?.count();
-    if words < 2 {
+    let files = env::args(rt)?.skip(1).count();
+    if files == 0 {
         return Err(anyhow!("usage: inspect FILE.."));
     }
-    let mut args = env::args(rt)?;
-    let _ = args.next();
-    for file in args {
+    for file in env::args(rt)?.skip(1) {
         let mut bytes = load(rt, file.as_str())?;
-        if words > 2 {
+        if files > 1 {
             println!(rt; "file {file}")?;
         }
         describe(rt, bytes.as_mut_slice())?;

@@ -7,8 +7,8 @@ pub const BLOCKS: usize = 4105;
 
 // Sets a byte of an image, if it is there.
 pub fn set_byte(image: &mut [u8], at: usize, byte: u8) {
-    if at < image.len() {
-        image[at] = byte;
+    if let Some(place) = image.get_mut(at) {
+        *place = byte;
     }
 }
 
@@ -25,8 +25,8 @@ pub fn set_slot(image: &mut [u8], slot: usize, flags: u8, sector: u16, first: u8
 
 // Clears the first bits of the tally, eight at a time.
 pub fn clear_bytes(image: &mut [u8], bytes: usize) {
-    for i in 0..bytes {
-        set_byte(image, BLOCK.saturating_add(i), 0);
+    for byte in image.iter_mut().skip(BLOCK).take(bytes) {
+        *byte = 0;
     }
 }
 

@@ -22,7 +22,7 @@ pub fn pile<A: Chip, B: Chip>(front: A, back: B, count: u16) -> Pile<A, B>
 
 // A volume on such a pile: that it is a chip takes no more words.
 pub fn volume_on<A: Chip, B: Chip>(front: A, back: B, count: u16) -> Volume<Pile<A, B>>
-    ensures { (result.chip.chip.front.chip ≡ front) × ((result.chip.chip.back ≡ back) × (result.chip.count ≡ count)) }
+    ensures { (result.engine.chip.chip.front.chip ≡ front) × ((result.engine.chip.chip.back ≡ back) × (result.engine.chip.count ≡ count)) }
 {
     Volume::new(pile(front, back, count))
 }

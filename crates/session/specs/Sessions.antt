@@ -1,14 +1,14 @@
 -- What a bench session makes of a line.
-use Rattle.std.specs.Prelude.{◌≡◌, ℕ, List, [], Some, None, Ok, Err, Option, Result}
+use Rattle.std.specs.Prelude.{◌≡◌, ℕ, List, [], Some, None, Option, Result}
 use Rattle.chip.specs.Flash.{Flash}
 use Rattle.bench_chip.specs.declared.Plan as bench
 use Rattle.script.specs.declared.Line.{Line}
 use Rattle.script.specs.declared.Line.TheVariants.{Plan, Format}
 use Rattle.script.specs.Script.{Says}
-use Rattle.volume.specs.declared.refusal.Refusal.{Refusal}
-use Rattle.volume.specs.Formats.{Formats}
+use Rattle.engine.specs.declared.refusal.Refusal.{Refusal}
+use Rattle.engine.specs.Formats.{Formats}
 use Rattle.session.specs.declared.reply.Reply.{Reply}
-use Rattle.session.specs.declared.reply.Reply.TheVariants.{Done, Refused, Unknown}
+use Rattle.session.specs.declared.reply.Reply.TheVariants.{Served, Unknown}
 
 -- the plan that a line gives
 abbrev pub Planned : List ℕ → Option bench.Plan → Type 0
@@ -17,8 +17,7 @@ Planned text (Some p) = Says text (Plan p.step p.mask)
 
 -- the reply to a call that has no result but that it was served
 abbrev pub reply : ℕ → Result (Unit {0}) Refusal → Reply
-reply letter (Ok _) = Done letter
-reply letter (Err e) = Refused letter e
+reply letter answer = Served letter answer
 
 -- a format was carried out, with one tally block and no name, and the reply is its answer
 pub record Formatting (sectors : ℕ) (s : Flash) (r : Reply) (t : Flash) : Type 0 where

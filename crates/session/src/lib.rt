@@ -1,7 +1,7 @@
 #![tactic(auto)]
 // A bench session: lines of a script, carried out on a volume over any chip.
 ghost use Rattle.std.specs.Prelude.{◌≡◌, MatchOption};
-ghost use Rattle.session.specs.Sessions.{Planned, reply, Serves};
+ghost use Rattle.session.specs.Sessions.{Planned, Serves};
 
 mod reply;
 
@@ -9,34 +9,21 @@ pub use self::reply::Reply;
 use bench_chip::Plan;
 use chip::Chip;
 use script::{Line, read_line};
-use volume::{Refusal, Volume};
+use volume::Volume;
 
 // The blocks of the tally, of which a script says nothing.
 const TALLY: u16 = 1;
-
-// The reply to a call that has no result but that it was served.
-fn reply_to(letter: char, answer: Result<(), Refusal>) -> Reply
-    ensures { result ≡ reply letter answer }
-{
-    match answer {
-        Ok(()) => Reply::Done { letter },
-        Err(refusal) => Reply::Refused { letter, refusal },
-    }
-}
 
 // The plan that a first line gives, if it gives one.
 pub fn plan_of(line: &[u8]) -> Option<Plan>
     ensures { Planned line.now result }
 {
-    let Some(said) = read_line(line) else {
-        return None;
-    };
-    match said {
+    match read_line(line)? {
         Line::Plan { step, mask } => Some(Plan {
             step: u32::from(step),
             mask,
         }),
-        Line::Format { sectors: _ } => None,
+        Line::Format { .. } => None,
     }
 }
 
@@ -48,7 +35,7 @@ pub struct Session<C: Chip> {
 
 impl<C: Chip> Session<C> {
     pub fn new(chip: C) -> Self
-        ensures { result.volume.chip ≡ chip }
+        ensures { result.volume.engine.chip ≡ chip }
     {
         Session {
             volume: Volume::new(chip),
@@ -57,14 +44,15 @@ impl<C: Chip> Session<C> {
 
     // Carries out one line. A plan comes too late here: it is only for the first line.
     pub fn serve(&mut self, line: &[u8]) -> Reply
-        ensures { Serves line.now (C.flash self.old.volume.chip) result (C.flash self.new.volume.chip) }
+        ensures { Serves line.now (C.flash self.old.volume.engine.chip) result (C.flash self.new.volume.engine.chip) }
     {
-        let Some(said) = read_line(line) else {
-            return Reply::Unknown;
-        };
-        match said {
-            Line::Plan { step: _, mask: _ } => Reply::Unknown,
-            Line::Format { sectors } => reply_to('f', self.volume.format(sectors, TALLY, b"")),
+        match read_line(line) {
+            Some(Line::Format { sectors }) => Reply::Served {
+                letter: 'f',
+                answer: self.volume.format(sectors, TALLY, b""),
+            },
+            Some(Line::Plan { .. }) => Reply::Unknown,
+            None => Reply::Unknown,
         }
     }
 }

@@ -4,10 +4,11 @@ use volume::Refusal;
 
 #[derive(Clone, Copy)]
 pub enum Reply {
-    // The letter, and `ok`.
-    Done { letter: char },
-    // The letter, `no`, and the refusal's numbers.
-    Refused { letter: char, refusal: Refusal },
+    // A line that was carried out: its letter, then `ok`, or `no` and the refusal's numbers.
+    Served {
+        letter: char,
+        answer: Result<(), Refusal>,
+    },
     // A line that is not served: `?`.
     Unknown,
 }
@@ -15,14 +16,16 @@ pub enum Reply {
 impl fmt::Display for Reply {
     fn fmt<W: fmt::Write>(&self, f: &mut fmt::Formatter<W>) -> fmt::Result {
         match *self {
-            Reply::Done { letter } => write!(f, "{letter} ok"),
-            Reply::Refused { letter, refusal } => {
-                write!(f, "{letter} no")?;
-                for n in refusal.as_numbers().as_slice() {
-                    write!(f, " {n}")?;
+            Reply::Served { letter, answer } => match answer {
+                Ok(()) => write!(f, "{letter} ok"),
+                Err(refusal) => {
+                    write!(f, "{letter} no")?;
+                    for n in refusal.as_numbers().as_slice() {
+                        write!(f, " {n}")?;
+                    }
+                    Ok(())
                 }
-                Ok(())
-            }
+            },
             Reply::Unknown => write!(f, "?"),
         }
     }

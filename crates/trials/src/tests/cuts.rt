@@ -6,7 +6,7 @@ use buffered_chip::Buffered;
 use chip::BLOCK;
 use std::process::Abort;
 use std::test::Fail;
-use tickets::Volume;
+use volume::Volume;
 
 // The step after those of the format, and the one after those of the script.
 pub const FIRST: u32 = 9;

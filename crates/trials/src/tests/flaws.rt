@@ -6,7 +6,7 @@ use chip::BLOCK;
 use image::{Flaw, examine};
 use std::process::Abort;
 use std::test::Fail;
-use tickets::Volume;
+use volume::Volume;
 
 const WHOLE: Plan = Plan { step: 0, mask: 0 };
 

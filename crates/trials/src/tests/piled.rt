@@ -12,7 +12,7 @@ use ring::Sector;
 use runs::{Answer, Call, run_calls};
 use std::process::Abort;
 use std::test::Fail;
-use tickets::Volume;
+use volume::Volume;
 
 const WHOLE: Plan = Plan { step: 0, mask: 0 };
 

@@ -5,7 +5,7 @@ use engine::Refusal;
 use ring::Sector;
 use std::process::Abort;
 use std::test::Fail;
-use tickets::{Ticket, Volume};
+use volume::{Ticket, Volume};
 
 // How far the script has come: the next batch, what the sectors hold, and what they may hold instead where a close was
 // cut; and how often power went.
