@@ -22,6 +22,7 @@ use Rattle.engine.specs.declared.memory.Batch.{Batch}
 use Rattle.engine.specs.declared.memory.Started.{Started}
 use Rattle.engine.specs.declared.memory.Memory.{Memory}
 use Rattle.engine.specs.declared.refusal.Refusal.{Refusal}
+use Rattle.engine.specs.declared.sector.Report.{Report}
 use Rattle.engine.specs.Refusals.{numbers}
 use Rattle.engine.specs.Memories.{largest_batch, most_tickets, Serves, Stopped, Mine, log_at, sizes_of, cleared_of, claimed_of, halted, idle, opened, one_more}
 
@@ -108,17 +109,14 @@ pub data Reads (x : ℕ) (s : Flash) (m : Memory) (old : List ℕ) : Result Bool
   done : {st : Started} {found : Bool} {new : List ℕ} → Serves s m st → length old ≡ 512 → x < (sizes_of st).sectors → Shown s st.log x found new → Reads x s m old (Ok found) new
 
 -- report: booked erases, unclaimed slots, written sectors, unbooked erases left
-abbrev pub Figures : Type 0
-Figures = ℕ × ℕ × ℕ × ℕ
+abbrev pub figures : Flash → Started → Report
+figures s st = record {
+  booked = booked (cleared_of st);
+  unclaimed = positions (sizes_of st) (cleared_of st) - claimed_of st;
+  written = written_among s (sizes_of st) (cleared_of st) (claimed_of st);
+  left = 16384 * (sizes_of st).tally - booked (cleared_of st);
+}
 
-abbrev pub figures : Flash → Started → Figures
-figures s st = (
-  booked (cleared_of st),
-  positions (sizes_of st) (cleared_of st) - claimed_of st,
-  written_among s (sizes_of st) (cleared_of st) (claimed_of st),
-  16384 * (sizes_of st).tally - booked (cleared_of st),
-)
-
-pub data Reports (s : Flash) (m : Memory) : Result Figures Refusal → Type 0 where
+pub data Reports (s : Flash) (m : Memory) : Result Report Refusal → Type 0 where
   stopped : {e : Refusal} → numbers e ≡ 1 ∷ [] → Stopped s m → Reports s m (Err e)
   done : {st : Started} → Serves s m st → Reports s m (Ok (figures s st))

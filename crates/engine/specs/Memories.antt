@@ -1,5 +1,5 @@
 -- What a volume keeps in memory, and how the calls change it.
-use Rattle.std.specs.Prelude.{◌≡◌, ℕ, ◌+◌, ◌*◌, ◌%◌, ◌≤◌, true, [], ◌∷◌, Some, None, Ok, Err, Result, ◌≢◌}
+use Rattle.std.specs.Prelude.{◌≡◌, ℕ, ◌+◌, ◌*◌, ◌%◌, ◌<◌, ◌≤◌, true, ◌⊎◌, [], ◌∷◌, Some, None, Ok, Err, Result, ◌≢◌}
 use Rattle.chip.specs.Flash.{Flash}
 use Rattle.label.specs.declared.Sizes.{Sizes}
 use Rattle.label.specs.Labels.{Sized}
@@ -58,6 +58,13 @@ cleared_of st = st.log.layout.cleared
 
 abbrev pub claimed_of : Started → ℕ
 claimed_of st = st.log.claimed
+
+-- a buffer of so many bytes is as long as a page, and there is a sector x, or the refusal
+abbrev pub Paged : Started → ℕ → ℕ → Result (Unit {0}) Refusal → Type 0
+Paged st x len (Ok _) = (len ≡ 512) × (x < (sizes_of st).sectors)
+Paged st x len (Err e) =
+    ((numbers e ≡ 5 ∷ []) × (len ≢ 512))
+    ⊎ ((numbers e ≡ 6 ∷ []) × (len ≡ 512) × ((sizes_of st).sectors ≤ x))
 
 -- the memory of a volume that is not started
 abbrev pub halted : Memory → Memory

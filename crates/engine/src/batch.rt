@@ -6,10 +6,10 @@ ghost use Rattle.laid.specs.Writing.{closing, dropping};
 ghost use Rattle.engine.specs.Calls.{Opens, Puts, Ends, Permitted, Allowed, ending};
 
 use crate::Engine;
-use crate::memory::{Batch, Memory, Started};
+use crate::memory::{Batch, Started};
 use crate::refusal::Refusal;
-use crate::serve::batch_of;
-use chip::{Chip, Fault, PAGE};
+use crate::serve::{batch_of, check_page};
+use chip::{Chip, Fault};
 use image::Log;
 use ring::Sector;
 use ring::layout::Layout;
@@ -43,12 +43,7 @@ fn check_open(started: Started, puts: u16, tickets: u32) -> Result<(), Refusal>
 fn check_put(started: Started, batch: Batch, sector: Sector, len: usize) -> Result<(), Refusal>
     ensures { Allowed started batch sector.0 len result }
 {
-    if len != PAGE {
-        return Err(Refusal::Length);
-    }
-    if sector.0 >= started.log.layout.sizes.sectors {
-        return Err(Refusal::NoSector);
-    }
+    check_page(started, sector, len)?;
     if batch.puts >= batch.limit {
         return Err(Refusal::BatchFull);
     }
@@ -75,24 +70,9 @@ impl<C: Chip> Engine<C> {
         check_open(started, puts, self.memory.tickets)?;
         self.memory.started = None;
         match make_room(&mut self.chip, started.log, puts + SPARE)? {
-            Room::Made(log) => {
-                let ticket = self.memory.tickets + 1;
-                let batch = Batch {
-                    ticket,
-                    limit: puts,
-                    puts: 0,
-                };
-                self.memory = Memory {
-                    tickets: ticket,
-                    started: Some(Started {
-                        log,
-                        batch: Some(batch),
-                    }),
-                };
-                Ok(ticket)
-            }
+            Room::Made(log) => Ok(self.memory.open(log, puts)),
             Room::Spent(log) => {
-                self.memory.started = Some(Started { log, batch: None });
+                self.memory.idle(log);
                 Err(Refusal::Spent)
             }
         }
@@ -116,13 +96,12 @@ impl<C: Chip> Engine<C> {
         )?;
         self.memory.started = Some(Started {
             log: Log {
-                layout: log.layout,
                 claimed: log.claimed + 1,
+                ..log
             },
             batch: Some(Batch {
-                ticket: batch.ticket,
-                limit: batch.limit,
                 puts: batch.puts + 1,
+                ..batch
             }),
         });
         Ok(())
@@ -140,7 +119,7 @@ impl<C: Chip> Engine<C> {
             let last = Position(log.claimed.saturating_sub(1));
             end_slot(&mut self.chip, log.layout, last, closed)?;
         }
-        self.memory.started = Some(Started { log, batch: None });
+        self.memory.idle(log);
         Ok(())
     }
 

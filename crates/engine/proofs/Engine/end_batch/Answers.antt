@@ -30,6 +30,6 @@ returns-in_err-end_slot g c =
 pub returns : goal.returns
 returns g c =
     elim c.if-batch-gt0.branch [
-      | then-batch-gt0+in_ok-end_slot w ↦ rw w.self-is (end_done {plan = ending c.args.closed} c.in_ok-started.ensures c.in_ok-batch.ensures (omega (arith, w.if-batch-gt0.true)) w.saturating_sub.ensures w.in_ok-end_slot.ensures)
-      | else-batch-gt0 w ↦ rw w.self-is (calls.empty c.in_ok-started.ensures c.in_ok-batch.ensures (omega (arith, w.if-batch-gt0.false)))
+      | then-batch-gt0+in_ok-end_slot w ↦ rw (c.idle.ensures, w.self-is) (end_done {plan = ending c.args.closed} c.in_ok-started.ensures c.in_ok-batch.ensures (omega (arith, w.if-batch-gt0.true)) w.saturating_sub.ensures w.in_ok-end_slot.ensures)
+      | else-batch-gt0 w ↦ rw (c.idle.ensures, w.self-is) (calls.empty c.in_ok-started.ensures c.in_ok-batch.ensures (omega (arith, w.if-batch-gt0.false)))
     ]

@@ -25,4 +25,4 @@ returns-in_err-log g c =
 pub returns : goal.returns
 returns g c =
     let found = c.in_ok-found.ensures in
-    start_done c.power_on.ensures c.examine.ensures.keeps found.examined (bounded _ _ found.stands) _ c.in_ok-log.ensures
+    rw c.idle.ensures (start_done c.power_on.ensures c.examine.ensures.keeps found.examined (bounded _ _ found.stands) _ c.in_ok-log.ensures)
