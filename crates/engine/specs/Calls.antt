@@ -1,6 +1,6 @@
 -- What each call answers, when, and what it leaves: s and m are the chip and the memory before it, t and w after it. A
 -- refusal is said by its numbers; of those that apply, the lowest is answered.
-use Rattle.std.specs.Prelude.{◌≡◌, ℕ, ◌+◌, ◌-◌, ◌*◌, ◌<◌, ◌≤◌, Bool, true, false, ◌⊎◌, List, [], ◌∷◌, length, Some, None, Ok, Err, Result, ◌≢◌, slice_index}
+use Rattle.std.specs.Prelude.{◌≡◌, ℕ, ◌+◌, ◌-◌, ◌*◌, ◌<◌, ◌≤◌, Bool, ◌⊎◌, List, [], ◌∷◌, length, Some, None, Ok, Err, Result, ◌≢◌, slice_index}
 use Rattle.chip.specs.declared.Home.{Home}
 use Rattle.chip.specs.declared.Fault.TheVariants as fault
 use Rattle.chip.specs.Flash.{Flash, awake}
@@ -15,7 +15,7 @@ use Rattle.image.specs.Fronts.{front_page}
 use Rattle.image.specs.Examined.{Sound, Unsound}
 use Rattle.image.specs.Surveys.{Bounded, Shown}
 use Rattle.lookup.specs.Answers.{written_among}
-use Rattle.laid.specs.Writing.{putting, closing, dropping}
+use Rattle.laid.specs.Writing.{putting}
 use Rattle.upkeep.specs.Repairs.{Repairs}
 use Rattle.upkeep.specs.Reclaims.{Rooms, made, spent}
 use Rattle.engine.specs.declared.memory.Batch.{Batch}
@@ -87,11 +87,6 @@ pub data Puts (n x : ℕ) (page : List ℕ) (s : Flash) (m : Memory) : Result (U
   full : {e : Refusal} {st : Started} {b : Batch} → numbers e ≡ 7 ∷ [] → Serves s m st → Mine st n b → length page ≡ 512 → x < (sizes_of st).sectors → b.limit ≤ b.puts → Puts n x page s m (Err e) s m
   done : {st : Started} {b : Batch} {t : Flash} → Puttable n x page s m st b → Performs (putting (sizes_of st) (cleared_of st) (claimed_of st) x page) s (Ok tt) t → Puts n x page s m (Ok tt) t (one_more m st b)
   cut : {e : Refusal} {h : Home} {st : Started} {b : Batch} {t : Flash} → CutAt e h → Puttable n x page s m st b → Performs (putting (sizes_of st) (cleared_of st) (claimed_of st) x page) s (Err (fault.Cut h)) t → Puts n x page s m (Err e) t (halted m)
-
--- the plan of a close, and of a drop
-abbrev pub ending : Bool → Sizes → ℕ → ℕ → List Step
-ending true = closing
-ending false = dropping
 
 -- close and drop, by their plan at the batch's last slot; a batch without puts needs no step
 pub data Ends (plan : Sizes → ℕ → ℕ → List Step) (n : ℕ) (s : Flash) (m : Memory) : Result (Unit {0}) Refusal → Flash → Memory → Type 0 where

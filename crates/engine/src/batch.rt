@@ -1,9 +1,11 @@
 // Batches: how one is opened, puts, and how it ends.
-ghost use Rattle.std.specs.Prelude.{◌≡◌, length};
+ghost use Rattle.std.specs.Prelude.{◌≡◌, ℕ, List, length};
+ghost use Rattle.chip.specs.Steps.{Step};
 ghost use Rattle.chip.specs.Plans.{Performs};
+ghost use Rattle.label.specs.declared.Sizes.{Sizes};
 ghost use Rattle.ring.specs.Turns.{Ready};
 ghost use Rattle.laid.specs.Writing.{closing, dropping};
-ghost use Rattle.engine.specs.Calls.{Opens, Puts, Ends, Permitted, Allowed, ending};
+ghost use Rattle.engine.specs.Calls.{Opens, Puts, Ends, Permitted, Allowed};
 
 use crate::Engine;
 use crate::memory::{Batch, Started};
@@ -48,17 +50,6 @@ fn check_put(started: Started, batch: Batch, sector: Sector, len: usize) -> Resu
         return Err(Refusal::BatchFull);
     }
     Ok(())
-}
-
-// Closes or drops the batch that ends at a position.
-fn end_slot<C: Chip>(chip: &mut C, layout: Layout, at: Position, closed: bool) -> Result<(), Fault>
-    requires { Ready (C.flash chip.old) layout.sizes layout.cleared }
-    ensures { Performs (ending closed layout.sizes layout.cleared at.0) (C.flash chip.old) result (C.flash chip.new) }
-{
-    if closed {
-        return close_slot(chip, layout, at);
-    }
-    drop_slot(chip, layout, at)
 }
 
 impl<C: Chip> Engine<C> {
@@ -107,9 +98,16 @@ impl<C: Chip> Engine<C> {
         Ok(())
     }
 
-    // Ends the open batch, at its last slot; a batch without puts has none.
-    fn end_batch(&mut self, ticket: u32, closed: bool) -> Result<(), Refusal>
-        ensures { Ends (ending closed) ticket (C.flash self.old.chip) self.old.memory result (C.flash self.new.chip) self.new.memory }
+    // Ends the open batch, by this step at its last slot; a batch without puts has none.
+    fn end_batch<E: FnOnce(&mut C, Layout, Position) -> Result<(), Fault>>(
+        &mut self,
+        ticket: u32,
+        end: E,
+    ) -> Result<(), Refusal>
+        requires { (chip : _) (layout : _) (at : _) → Ready (C.flash chip.now) layout.sizes layout.cleared → E.pre end chip layout at }
+        ensures { (plan : Sizes → ℕ → ℕ → List Step)
+            → ((chip : _) (layout : _) (at : _) (answer : _) (left : _) → E.post end chip layout at answer left → Performs (plan layout.sizes layout.cleared at.0) (C.flash chip.now) answer (C.flash left.now))
+            → Ends plan ticket (C.flash self.old.chip) self.old.memory result (C.flash self.new.chip) self.new.memory }
     {
         let started = self.serving()?;
         let batch = batch_of(started, ticket)?;
@@ -117,7 +115,7 @@ impl<C: Chip> Engine<C> {
         self.memory.started = None;
         if batch.puts > 0 {
             let last = Position(log.claimed.saturating_sub(1));
-            end_slot(&mut self.chip, log.layout, last, closed)?;
+            end(&mut self.chip, log.layout, last)?;
         }
         self.memory.idle(log);
         Ok(())
@@ -127,13 +125,13 @@ impl<C: Chip> Engine<C> {
     pub fn close(&mut self, ticket: u32) -> Result<(), Refusal>
         ensures { Ends closing ticket (C.flash self.old.chip) self.old.memory result (C.flash self.new.chip) self.new.memory }
     {
-        self.end_batch(ticket, true)
+        self.end_batch(ticket, close_slot)
     }
 
     // Drops the open batch: none of its puts counts.
     pub fn abandon(&mut self, ticket: u32) -> Result<(), Refusal>
         ensures { Ends dropping ticket (C.flash self.old.chip) self.old.memory result (C.flash self.new.chip) self.new.memory }
     {
-        self.end_batch(ticket, false)
+        self.end_batch(ticket, drop_slot)
     }
 }
