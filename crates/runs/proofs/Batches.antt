@@ -32,9 +32,7 @@ use Rattle.engine.specs.Memories.{Serves, Mine, sizes_of, cleared_of, claimed_of
 use Rattle.engine.specs.Calls as calls
 use Rattle.engine.specs.Calls.{CutAt, Puttable, Puts, Ends}
 use Rattle.runs.specs.declared.run.Call.TheVariants as call
-use Rattle.runs.specs.declared.run.Answer.{Answer}
-use Rattle.runs.specs.declared.run.Answer.TheVariants as answer
-use Rattle.runs.specs.Ledger.{Ledger, puts_of, joined, over, written, is_cut, enter}
+use Rattle.runs.specs.Ledger.{Ledger, puts_of, joined, over, written, is_cut, enter, Answer}
 use Rattle.runs.specs.Runs.{said}
 use Rattle.runs.proofs.Standing.{Room, Batched, Stands, Kept, Inv, Next}
 use Rattle.runs.proofs.Common.{kept_of, carries_of, label_kept, sized_kept}
@@ -319,7 +317,7 @@ next_put {z} {s} {m = m} {l = l} {n = n} {x = x} {page = page} inv does = go doe
     comes : {a : Answer} {t : Flash} {w : Memory} → Inv z t w (enter false l (call.Put n x page) a) → Next z s m l (call.Put n x page) a t w
     comes k = record { choice = false; inv = k; meets = tt; promised = tt }
 
-    refused : (e : Refusal) {i : ℕ} → numbers e ≡ i ∷ [] → (i ≡ 13 → ⊥) → Next z s m l (call.Put n x page) (answer.Refused e) s m
+    refused : (e : Refusal) {i : ℕ} → numbers e ≡ i ∷ [] → (i ≡ 13 → ⊥) → Next z s m l (call.Put n x page) (Err e) s m
     refused e is other = comes (same_ledger (Inv z s m) (over l) l e is other inv)
 
     go : {r : Result (Unit {0}) Refusal} {t : Flash} {w : Memory} → Puts n x.0 page.now s m r t w → Next z s m l (call.Put n x page) (said r) t w
@@ -339,7 +337,7 @@ next_close {z} {s} {m = m} {l = l} {n = n} inv does = go does
     comes : {a : Answer} {t : Flash} {w : Memory} (all : Bool) → Inv z t w (enter all l (call.Close n) a) → Next z s m l (call.Close n) a t w
     comes all k = record { choice = all; inv = k; meets = tt; promised = tt }
 
-    refused : (e : Refusal) {i : ℕ} → numbers e ≡ i ∷ [] → (i ≡ 13 → ⊥) → Next z s m l (call.Close n) (answer.Refused e) s m
+    refused : (e : Refusal) {i : ℕ} → numbers e ≡ i ∷ [] → (i ≡ 13 → ⊥) → Next z s m l (call.Close n) (Err e) s m
     refused e is other = comes false (same_ledger (Inv z s m) (over l) l e is other inv)
 
     go : {r : Result (Unit {0}) Refusal} {t : Flash} {w : Memory} → Ends closing n s m r t w → Next z s m l (call.Close n) (said r) t w
@@ -361,7 +359,7 @@ next_drop {z} {s} {m = m} {l = l} {n = n} inv does = go does
     comes : {a : Answer} {t : Flash} {w : Memory} → Inv z t w (enter false l (call.Drop n) a) → Next z s m l (call.Drop n) a t w
     comes k = record { choice = false; inv = k; meets = tt; promised = tt }
 
-    refused : (e : Refusal) {i : ℕ} → numbers e ≡ i ∷ [] → (i ≡ 13 → ⊥) → Next z s m l (call.Drop n) (answer.Refused e) s m
+    refused : (e : Refusal) {i : ℕ} → numbers e ≡ i ∷ [] → (i ≡ 13 → ⊥) → Next z s m l (call.Drop n) (Err e) s m
     refused e is other = comes (same_ledger (Inv z s m) (over l) l e is other inv)
 
     go : {r : Result (Unit {0}) Refusal} {t : Flash} {w : Memory} → Ends dropping n s m r t w → Next z s m l (call.Drop n) (said r) t w

@@ -4,8 +4,7 @@ use Rattle.chip.specs.Flash.{Flash}
 use Rattle.label.specs.declared.Sizes.{Sizes}
 use Rattle.engine.specs.declared.memory.Memory.{Memory}
 use Rattle.runs.specs.declared.run.Call.{Call}
-use Rattle.runs.specs.declared.run.Answer.{Answer}
-use Rattle.runs.specs.Ledger.{Ledger, blank, enter}
+use Rattle.runs.specs.Ledger.{Ledger, blank, enter, Answer}
 use Rattle.runs.specs.Runs.{Calls}
 use Rattle.runs.specs.Law.{Turn, Link, Chain, none, more, call_of, answer_of, Ran}
 use Rattle.runs.proofs.Common.{serves_of}
