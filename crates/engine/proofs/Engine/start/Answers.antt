@@ -4,9 +4,6 @@ use Rattle.image.proofs.Bounds.{bounded}
 use Rattle.engine.proofs.Starting.{start_flawed, start_cut, start_done}
 use Rattle.engine.proofs.Engine.start.Goals as goal
 
-pub repair-requires : goal.repair-requires
-repair-requires g c = rw c.examine.ensures.keeps (bounded _ _ c.in_ok-found.ensures.stands)
-
 pub returns-in_err-found : goal.returns-in_err-found
 returns-in_err-found g c =
     let out = err_from_is_err_and c.from_residual.result c.from_residual.ensures.1 in
