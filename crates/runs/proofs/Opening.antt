@@ -1,5 +1,5 @@
 -- An open of a volume that keeps the invariant, and the promise on it.
-use Rattle.std.proofs.Common.{◌≡◌, ℕ, ◌+◌, ◌-◌, ◌*◌, ◌<◌, ◌≤◌, true, false, List, [], ◌++◌, length, is_some, Some, None, Ok, Err, Option, Result, sym, refl, ap, ◌∙◌, subst, inl, inr, true≢false, arith}
+use Rattle.std.proofs.Common.{◌≡◌, ℕ, ◌+◌, ◌-◌, ◌*◌, ◌<◌, ◌≤◌, true, false, List, [], ◌++◌, length, Some, None, Ok, Err, Option, Result, sym, refl, ap, ◌∙◌, subst, inl, inr, arith}
 use Rattle.chip.specs.declared.Fault.{Fault}
 use Rattle.chip.specs.Flash.{Flash}
 use Rattle.chip.specs.Steps.{Step}
@@ -52,7 +52,7 @@ one_started o a b p q = cc
 
 -- no batch is not a batch
 none_some : (o : Option Batch) (b : Batch) → o ≡ None → o ≡ Some b → ⊥
-none_some o b p q = true≢false (ap (λ (x : Option Batch). is_some x) (sym q ∙ p))
+none_some o b p q = cc
 
 -- a refusal before room is made changes nothing
 same_next : {z : Sizes} {n : ℕ} {s : Flash} {m : Memory} {l : Ledger} (e : Refusal) → Inv z s m l → ((st : Started) → m.started ≡ Some st → st.batch ≡ None → 1 ≤ n → n ≤ largest_batch → OpensWell z n m s (Err e)) → Next z s m l (call.Open n) (Err e) s m

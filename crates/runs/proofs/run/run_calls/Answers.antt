@@ -32,8 +32,8 @@ loop-k-preserved g c =
           rw (take_more_set xs k a there, take_more c.args.calls.now k call.Start asked) (running_more run calls (next run.inv calls)),
     )
 
-pub returns : goal.returns
-returns g c =
+pub returns-clause-law : goal.returns-clause-law
+returns-clause-law g c =
     let accepts = c.in_ok-format.ensures.formats in
     let forgets = c.in_ok-format.ensures.forgets in
     let s = g.C.Chip.flash c.args.engine.now.chip in
@@ -43,7 +43,4 @@ returns g c =
     let blank-inv = format_inv c.args.sectors c.args.tally c.args.name.now s f c.args.engine.now.memory accepts in
     let z = sizes_on s.blocks c.args.sectors c.args.tally in
     let run = (inv.3 z (rw forgets blank-inv)).ran in
-    record {
-      law = (f, accepts, rw (all, forgets) at run);
-      noted = (search rules, inv.1, rw all at inv.2);
-    }
+    (f, accepts, rw (all, forgets) at run)
