@@ -1,5 +1,5 @@
 -- The erases of a format, one block after another.
-use Rattle.std.proofs.Common.{◌≡◌, ℕ, zero, suc, ◌+◌, ◌<◌, [], ◌∷◌, ◌++◌, Ok, Err, subst, ⊎_elim, add-one, arith}
+use Rattle.std.proofs.Common.{ℕ, zero, suc, ◌+◌, ◌<◌, [], ◌∷◌, ◌++◌, Ok, Err, subst, ⊎_elim, add-one, arith}
 use Rattle.std.proofs.lemmas.Bool.{cases_eq}
 use Rattle.chip.specs.declared.Fault.{Fault}
 use Rattle.chip.specs.Flash.{Flash}
@@ -28,7 +28,3 @@ erase_stops b (suc n) {s} {m} {t} {f} lt h w =
     (λ e. subst (λ k. Tries (erasing k ++ (erase k ∷ [])) s (Err f) t) e (tries_then h (plans.stop w)))
     (λ ne. tries_less (erase n ∷ []) (erase_stops b n (omega (arith, ne)) h w))
     (cases_eq b n)
-
--- as many blocks are erased as there are
-pub erase_all : (b n : ℕ) {s t : Flash} → b ≡ n → Tries (erasing b) s (Ok tt) t → Tries (erasing n) s (Ok tt) t
-erase_all b n {s} {t} e h = subst (λ k. Tries (erasing k) s (Ok tt) t) e h

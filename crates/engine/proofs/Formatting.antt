@@ -3,7 +3,6 @@ use Rattle.std.proofs.Common.{◌≡◌, ℕ, zero, suc, ◌<◌, ◌≤◌, Lis
 use lib.Bits.{bit_and, and_comm, and_mask}
 use Rattle.std.proofs.lemmas.Bool.{cases_eq}
 use Rattle.chip.specs.declared.Fault.{Fault}
-use Rattle.chip.specs.declared.Fault.TheVariants as fault
 use Rattle.chip.specs.Flash.{Flash, awake}
 use Rattle.chip.specs.Steps.{program, erase}
 use Rattle.chip.specs.Plans as plans
@@ -64,12 +63,6 @@ formatted s {t} label some bytes short h =
       behind = λ o le lt. w.done.elsewhere.after o (omega arith) ∙ blank 0 o some lt;
       others = λ b o up lt in_block. w.done.elsewhere.others b o (λ e. omega (arith, e)) ∙ blank b o lt in_block;
     }
-
--- no fault of a chip is refused as sizes are
-pub never_sizes : (f : Fault) → numbers (converted f) ≡ 9 ∷ [] → ⊥
-never_sizes fault.Range e = omega (arith, ap (λ l. get_or l 0 0) e)
-never_sizes fault.NoPower e = omega (arith, ap (λ l. get_or l 0 0) e)
-never_sizes (fault.Cut h) e = omega (arith, ap (λ l. get_or l 0 0) e)
 
 -- a format whose steps were tried is accepted or cut
 module _ (blocks sectors tally : ℕ) (name : List ℕ) (buffer : LabelBytes) (label : List ℕ) (s a t : Flash) (count : blocks ≡ s.blocks) (admitted : Admitted blocks sectors tally name buffer) (slice : label ≡ take buffer.len buffer.bytes) (len : length label ≡ buffer.len) (woken : a ≡ awake s) where

@@ -6,7 +6,7 @@ use Rattle.chip.specs.declared.Fault.TheVariants as fault
 use Rattle.chip.specs.Flash.{Flash}
 use Rattle.chip.proofs.Performed.{only_cut}
 use Rattle.label.specs.declared.Sizes.{Sizes}
-use Rattle.image.specs.declared.verdict.Log.{Log}
+use Rattle.ring.specs.declared.layout.Log.{Log}
 use Rattle.upkeep.specs.declared.room.Room.{Room}
 use Rattle.upkeep.specs.declared.room.Room.TheVariants.{Made, Spent}
 use Rattle.upkeep.specs.Reclaims as reclaims

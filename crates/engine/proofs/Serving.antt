@@ -16,9 +16,9 @@ use Rattle.engine.specs.declared.memory.Started.{Started}
 use Rattle.engine.specs.declared.memory.Memory.{Memory}
 use Rattle.engine.specs.declared.refusal.Refusal.{Refusal}
 use Rattle.engine.specs.Refusals.{numbers, converted}
-use Rattle.engine.specs.Memories.{Serves, Mine, sizes_of, cleared_of, claimed_of, halted, idle}
+use Rattle.engine.specs.Memories.{Serves, Mine, Paged, sizes_of, cleared_of, claimed_of, halted, idle}
 use Rattle.engine.specs.Calls as calls
-use Rattle.engine.specs.Calls.{CutAt, Allowed, Puttable, Puts, Ends, Reports}
+use Rattle.engine.specs.Calls.{CutAt, Allowed, Puttable, Puts, Ends, Reads, Reports}
 
 -- a plan that was not performed whole was cut, and the refusal tells where
 pub cut_of : {plan : List Step} {s t : Flash} {f : Fault} → Performs plan s (Err f) t → (h : Home) × CutAt (converted f) h × Performs plan s (Err (fault.Cut h)) t
@@ -26,6 +26,10 @@ cut_of {plan} {s} {t} {f} p =
     let x = only_cut p in
     let P : Fault → Type 0 = λ g. Performs plan s (Err g) t in
     (x.0, ap (λ (g : Fault). numbers (converted g)) x.1, subst P x.1 p)
+
+-- a read that is refused for its page or its sector
+pub read_refused : {x : ℕ} {old : List ℕ} {s : Flash} {m : Memory} {st : Started} {e : Refusal} → Serves s m st → Paged st x (length old) (Err e) → Reads x s m old (Err e) old
+read_refused serves h = ⊎_elim (λ a. calls.no_page a.0 serves a.1) (λ a. calls.sector a.0 serves a.1 a.2) h
 
 -- a put that may join its batch
 pub puttable : {n x : ℕ} {page : List ℕ} {s : Flash} {m : Memory} {st : Started} {b : Batch} → Serves s m st → Mine st n b → ((o : ℕ) → get_or page o 0 < 256) → Allowed st b x (length page) (Ok tt) → Puttable n x page s m st b
@@ -57,5 +61,5 @@ module _ {plan : Sizes → ℕ → ℕ → List Step} {n p : ℕ} {s t : Flash} 
       calls.cut y.1 serves mine some y.2
 
 -- the figures of a survey
-pub reported : {s : Flash} {m : Memory} {st : Started} (r : Survey) → Serves s m st → SurveyedAmong s st.log r → Reports s m (Ok (r.booked, r.unclaimed, r.written, r.left))
+pub reported : {s : Flash} {m : Memory} {st : Started} (r : Survey) → Serves s m st → SurveyedAmong s st.log r → Reports s m (Ok record { booked = r.booked; unclaimed = r.unclaimed; written = r.written; left = r.left })
 reported {s} {m} {st} r serves h = rw (h.booked, h.unclaimed, h.written, h.left) (calls.done serves)

@@ -5,7 +5,7 @@ use Rattle.chip.specs.Flash.{Flash, awake}
 use Rattle.chip.proofs.Performed.{on_off}
 use Rattle.image.specs.declared.flaw.Flaw.{Flaw}
 use Rattle.image.specs.declared.flaw.Flaw.TheVariants as flaw
-use Rattle.image.specs.declared.verdict.Log.{Log}
+use Rattle.ring.specs.declared.layout.Log.{Log}
 use Rattle.image.specs.Examined as images
 use Rattle.image.specs.Examined.{Sound, Examined}
 use Rattle.image.specs.Surveys.{Bounded}

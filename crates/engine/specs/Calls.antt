@@ -1,6 +1,7 @@
 -- What each call answers, when, and what it leaves: s and m are the chip and the memory before it, t and w after it. A
 -- refusal is said by its numbers; of those that apply, the lowest is answered.
-use Rattle.std.specs.Prelude.{◌≡◌, ℕ, ◌+◌, ◌-◌, ◌*◌, ◌<◌, ◌≤◌, Bool, true, false, ◌⊎◌, List, [], ◌∷◌, length, Some, None, Ok, Err, Result, ◌≢◌, slice_index}
+use Rattle.std.specs.Prelude.{◌≡◌, ℕ, ◌+◌, ◌-◌, ◌*◌, ◌<◌, ◌≤◌, Bool, ◌⊎◌, List, [], ◌∷◌, length, Some, None, Ok, Err, Result, ◌≢◌, slice_index}
+use Rattle.std.specs.Borrow.{Bor}
 use Rattle.chip.specs.declared.Home.{Home}
 use Rattle.chip.specs.declared.Fault.TheVariants as fault
 use Rattle.chip.specs.Flash.{Flash, awake}
@@ -10,18 +11,19 @@ use Rattle.label.specs.Labels.{Faulty}
 use Rattle.label.specs.declared.Sizes.{Sizes}
 use Rattle.ring.specs.Tally.{booked}
 use Rattle.ring.specs.Places.{positions}
-use Rattle.image.specs.declared.verdict.Log.{Log}
+use Rattle.ring.specs.declared.layout.Log.{Log}
 use Rattle.image.specs.Fronts.{front_page}
 use Rattle.image.specs.Examined.{Sound, Unsound}
 use Rattle.image.specs.Surveys.{Bounded, Shown}
 use Rattle.lookup.specs.Answers.{written_among}
-use Rattle.laid.specs.Writing.{putting, closing, dropping}
+use Rattle.laid.specs.Writing.{putting}
 use Rattle.upkeep.specs.Repairs.{Repairs}
 use Rattle.upkeep.specs.Reclaims.{Rooms, made, spent}
 use Rattle.engine.specs.declared.memory.Batch.{Batch}
 use Rattle.engine.specs.declared.memory.Started.{Started}
 use Rattle.engine.specs.declared.memory.Memory.{Memory}
 use Rattle.engine.specs.declared.refusal.Refusal.{Refusal}
+use Rattle.engine.specs.declared.sector.Report.{Report}
 use Rattle.engine.specs.Refusals.{numbers}
 use Rattle.engine.specs.Memories.{largest_batch, most_tickets, Serves, Stopped, Mine, log_at, sizes_of, cleared_of, claimed_of, halted, idle, opened, one_more}
 
@@ -78,6 +80,11 @@ Allowed st b x len (Err e) =
     ⊎ (((numbers e ≡ 6 ∷ []) × (len ≡ 512) × ((sizes_of st).sectors ≤ x))
     ⊎ ((numbers e ≡ 7 ∷ []) × (len ≡ 512) × (x < (sizes_of st).sectors) × (b.limit ≤ b.puts)))
 
+-- these bytes as a page, where the put of them may join the batch
+abbrev pub Joins : Started → Batch → ℕ → List ℕ → Result (Bor (List ℕ)) Refusal → Type 0
+Joins st b x bytes (Ok page) = (page.now ≡ bytes) × Allowed st b x (length bytes) (Ok tt)
+Joins st b x bytes (Err e) = Allowed st b x (length bytes) (Err e)
+
 pub data Puts (n x : ℕ) (page : List ℕ) (s : Flash) (m : Memory) : Result (Unit {0}) Refusal → Flash → Memory → Type 0 where
   stopped : {e : Refusal} → numbers e ≡ 1 ∷ [] → Stopped s m → Puts n x page s m (Err e) s m
   other : {e : Refusal} {st : Started} → numbers e ≡ 2 ∷ [] → Serves s m st → ((b : Batch) → Mine st n b → ⊥) → Puts n x page s m (Err e) s m
@@ -86,11 +93,6 @@ pub data Puts (n x : ℕ) (page : List ℕ) (s : Flash) (m : Memory) : Result (U
   full : {e : Refusal} {st : Started} {b : Batch} → numbers e ≡ 7 ∷ [] → Serves s m st → Mine st n b → length page ≡ 512 → x < (sizes_of st).sectors → b.limit ≤ b.puts → Puts n x page s m (Err e) s m
   done : {st : Started} {b : Batch} {t : Flash} → Puttable n x page s m st b → Performs (putting (sizes_of st) (cleared_of st) (claimed_of st) x page) s (Ok tt) t → Puts n x page s m (Ok tt) t (one_more m st b)
   cut : {e : Refusal} {h : Home} {st : Started} {b : Batch} {t : Flash} → CutAt e h → Puttable n x page s m st b → Performs (putting (sizes_of st) (cleared_of st) (claimed_of st) x page) s (Err (fault.Cut h)) t → Puts n x page s m (Err e) t (halted m)
-
--- the plan of a close, and of a drop
-abbrev pub ending : Bool → Sizes → ℕ → ℕ → List Step
-ending true = closing
-ending false = dropping
 
 -- close and drop, by their plan at the batch's last slot; a batch without puts needs no step
 pub data Ends (plan : Sizes → ℕ → ℕ → List Step) (n : ℕ) (s : Flash) (m : Memory) : Result (Unit {0}) Refusal → Flash → Memory → Type 0 where
@@ -108,17 +110,14 @@ pub data Reads (x : ℕ) (s : Flash) (m : Memory) (old : List ℕ) : Result Bool
   done : {st : Started} {found : Bool} {new : List ℕ} → Serves s m st → length old ≡ 512 → x < (sizes_of st).sectors → Shown s st.log x found new → Reads x s m old (Ok found) new
 
 -- report: booked erases, unclaimed slots, written sectors, unbooked erases left
-abbrev pub Figures : Type 0
-Figures = ℕ × ℕ × ℕ × ℕ
+abbrev pub figures : Flash → Started → Report
+figures s st = record {
+  booked = booked (cleared_of st);
+  unclaimed = positions (sizes_of st) (cleared_of st) - claimed_of st;
+  written = written_among s (sizes_of st) (cleared_of st) (claimed_of st);
+  left = 16384 * (sizes_of st).tally - booked (cleared_of st);
+}
 
-abbrev pub figures : Flash → Started → Figures
-figures s st = (
-  booked (cleared_of st),
-  positions (sizes_of st) (cleared_of st) - claimed_of st,
-  written_among s (sizes_of st) (cleared_of st) (claimed_of st),
-  16384 * (sizes_of st).tally - booked (cleared_of st),
-)
-
-pub data Reports (s : Flash) (m : Memory) : Result Figures Refusal → Type 0 where
+pub data Reports (s : Flash) (m : Memory) : Result Report Refusal → Type 0 where
   stopped : {e : Refusal} → numbers e ≡ 1 ∷ [] → Stopped s m → Reports s m (Err e)
   done : {st : Started} → Serves s m st → Reports s m (Ok (figures s st))

@@ -1,10 +1,10 @@
 -- What a volume keeps in memory, and how the calls change it.
-use Rattle.std.specs.Prelude.{◌≡◌, ℕ, ◌+◌, ◌*◌, ◌%◌, ◌≤◌, true, [], ◌∷◌, Some, None, Ok, Err, Result, ◌≢◌}
+use Rattle.std.specs.Prelude.{◌≡◌, ℕ, ◌+◌, ◌*◌, ◌%◌, ◌<◌, ◌≤◌, true, ◌⊎◌, [], ◌∷◌, Some, None, Ok, Err, Result, ◌≢◌}
 use Rattle.chip.specs.Flash.{Flash}
 use Rattle.label.specs.declared.Sizes.{Sizes}
 use Rattle.label.specs.Labels.{Sized}
 use Rattle.ring.specs.Tally.{tally_bits}
-use Rattle.image.specs.declared.verdict.Log.{Log}
+use Rattle.ring.specs.declared.layout.Log.{Log}
 pub use Rattle.upkeep.specs.Numbers.{log_at}
 use Rattle.engine.specs.declared.memory.Batch.{Batch}
 use Rattle.engine.specs.declared.memory.Started.{Started}
@@ -58,6 +58,18 @@ cleared_of st = st.log.layout.cleared
 
 abbrev pub claimed_of : Started → ℕ
 claimed_of st = st.log.claimed
+
+-- there is a sector x, or the refusal
+abbrev pub Numbered : Started → ℕ → Result (Unit {0}) Refusal → Type 0
+Numbered st x (Ok _) = x < (sizes_of st).sectors
+Numbered st x (Err e) = (numbers e ≡ 6 ∷ []) × ((sizes_of st).sectors ≤ x)
+
+-- a buffer of so many bytes is as long as a page, and there is a sector x, or the refusal
+abbrev pub Paged : Started → ℕ → ℕ → Result (Unit {0}) Refusal → Type 0
+Paged st x len (Ok _) = (len ≡ 512) × (x < (sizes_of st).sectors)
+Paged st x len (Err e) =
+    ((numbers e ≡ 5 ∷ []) × (len ≢ 512))
+    ⊎ ((numbers e ≡ 6 ∷ []) × (len ≡ 512) × ((sizes_of st).sectors ≤ x))
 
 -- the memory of a volume that is not started
 abbrev pub halted : Memory → Memory

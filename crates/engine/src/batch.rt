@@ -1,27 +1,28 @@
 // Batches: how one is opened, puts, and how it ends.
-ghost use Rattle.std.specs.Prelude.{◌≡◌, length};
+ghost use Rattle.std.specs.Prelude.{◌≡◌, ℕ, List};
+ghost use Rattle.chip.specs.Steps.{Step};
 ghost use Rattle.chip.specs.Plans.{Performs};
+ghost use Rattle.label.specs.declared.Sizes.{Sizes};
 ghost use Rattle.ring.specs.Turns.{Ready};
 ghost use Rattle.laid.specs.Writing.{closing, dropping};
-ghost use Rattle.engine.specs.Calls.{Opens, Puts, Ends, Permitted, Allowed, ending};
+ghost use Rattle.engine.specs.Calls.{Opens, Puts, Ends, Permitted, Joins};
 
 use crate::Engine;
-use crate::memory::{Batch, Memory, Started};
+use crate::memory::{Batch, Started};
 use crate::refusal::Refusal;
-use crate::serve::batch_of;
+use crate::serve::{batch_of, check_sector};
 use chip::{Chip, Fault, PAGE};
-use image::Log;
-use ring::Sector;
-use ring::layout::Layout;
+use ring::directory::SLOTS;
+use ring::layout::{Layout, Log};
+use ring::{Position, Sector};
 use upkeep::{Room, make_room};
-use writes::Position;
 use writes::slot::{close_slot, drop_slot, put_slot};
 
 // The most puts that a batch may have.
 const LARGEST_BATCH: u16 = 14;
 
-// The slots that stay free for the copies of a reclaim.
-const SPARE: u16 = 7;
+// The slots that stay free for the copies of a reclaim: as many as a block has.
+const SPARE: u16 = SLOTS;
 
 // Whether a batch of so many puts may be opened, after so many tickets.
 fn check_open(started: Started, puts: u16, tickets: u32) -> Result<(), Refusal>
@@ -39,31 +40,23 @@ fn check_open(started: Started, puts: u16, tickets: u32) -> Result<(), Refusal>
     Ok(())
 }
 
-// Whether a put of so many bytes to a sector may join a batch.
-fn check_put(started: Started, batch: Batch, sector: Sector, len: usize) -> Result<(), Refusal>
-    ensures { Allowed started batch sector.0 len result }
+// The bytes of a put to a sector as a page, if it may join a batch.
+fn check_put<'a>(
+    started: Started,
+    batch: Batch,
+    sector: Sector,
+    bytes: &'a [u8],
+) -> Result<&'a [u8; PAGE], Refusal>
+    ensures { Joins started batch sector.0 bytes.now result }
 {
-    if len != PAGE {
+    let Ok(page) = bytes.try_into() else {
         return Err(Refusal::Length);
-    }
-    if sector.0 >= started.log.layout.sizes.sectors {
-        return Err(Refusal::NoSector);
-    }
+    };
+    check_sector(started, sector)?;
     if batch.puts >= batch.limit {
         return Err(Refusal::BatchFull);
     }
-    Ok(())
-}
-
-// Closes or drops the batch that ends at a position.
-fn end_slot<C: Chip>(chip: &mut C, layout: Layout, at: Position, closed: bool) -> Result<(), Fault>
-    requires { Ready (C.flash chip.old) layout.sizes layout.cleared }
-    ensures { Performs (ending closed layout.sizes layout.cleared at.0) (C.flash chip.old) result (C.flash chip.new) }
-{
-    if closed {
-        return close_slot(chip, layout, at);
-    }
-    drop_slot(chip, layout, at)
+    Ok(page)
 }
 
 impl<C: Chip> Engine<C> {
@@ -75,24 +68,9 @@ impl<C: Chip> Engine<C> {
         check_open(started, puts, self.memory.tickets)?;
         self.memory.started = None;
         match make_room(&mut self.chip, started.log, puts + SPARE)? {
-            Room::Made(log) => {
-                let ticket = self.memory.tickets + 1;
-                let batch = Batch {
-                    ticket,
-                    limit: puts,
-                    puts: 0,
-                };
-                self.memory = Memory {
-                    tickets: ticket,
-                    started: Some(Started {
-                        log,
-                        batch: Some(batch),
-                    }),
-                };
-                Ok(ticket)
-            }
+            Room::Made(log) => Ok(self.memory.open(log, puts)),
             Room::Spent(log) => {
-                self.memory.started = Some(Started { log, batch: None });
+                self.memory.idle(log);
                 Err(Refusal::Spent)
             }
         }
@@ -104,7 +82,7 @@ impl<C: Chip> Engine<C> {
     {
         let started = self.serving()?;
         let batch = batch_of(started, ticket)?;
-        check_put(started, batch, sector, page.len())?;
+        let whole = check_put(started, batch, sector, page)?;
         let log = started.log;
         self.memory.started = None;
         put_slot(
@@ -112,25 +90,31 @@ impl<C: Chip> Engine<C> {
             log.layout,
             Position(log.claimed),
             sector,
-            page,
+            whole,
         )?;
         self.memory.started = Some(Started {
             log: Log {
-                layout: log.layout,
                 claimed: log.claimed + 1,
+                ..log
             },
             batch: Some(Batch {
-                ticket: batch.ticket,
-                limit: batch.limit,
                 puts: batch.puts + 1,
+                ..batch
             }),
         });
         Ok(())
     }
 
-    // Ends the open batch, at its last slot; a batch without puts has none.
-    fn end_batch(&mut self, ticket: u32, closed: bool) -> Result<(), Refusal>
-        ensures { Ends (ending closed) ticket (C.flash self.old.chip) self.old.memory result (C.flash self.new.chip) self.new.memory }
+    // Ends the open batch, by this step at its last slot; a batch without puts has none.
+    fn end_batch<E: FnOnce(&mut C, Layout, Position) -> Result<(), Fault>>(
+        &mut self,
+        ticket: u32,
+        end: E,
+    ) -> Result<(), Refusal>
+        requires { (chip : _) (layout : _) (at : _) → Ready (C.flash chip.now) layout.sizes layout.cleared → E.pre end chip layout at }
+        ensures { (plan : Sizes → ℕ → ℕ → List Step)
+            → ((chip : _) (layout : _) (at : _) (answer : _) (left : _) → E.post end chip layout at answer left → Performs (plan layout.sizes layout.cleared at.0) (C.flash chip.now) answer (C.flash left.now))
+            → Ends plan ticket (C.flash self.old.chip) self.old.memory result (C.flash self.new.chip) self.new.memory }
     {
         let started = self.serving()?;
         let batch = batch_of(started, ticket)?;
@@ -138,9 +122,9 @@ impl<C: Chip> Engine<C> {
         self.memory.started = None;
         if batch.puts > 0 {
             let last = Position(log.claimed.saturating_sub(1));
-            end_slot(&mut self.chip, log.layout, last, closed)?;
+            end(&mut self.chip, log.layout, last)?;
         }
-        self.memory.started = Some(Started { log, batch: None });
+        self.memory.idle(log);
         Ok(())
     }
 
@@ -148,13 +132,13 @@ impl<C: Chip> Engine<C> {
     pub fn close(&mut self, ticket: u32) -> Result<(), Refusal>
         ensures { Ends closing ticket (C.flash self.old.chip) self.old.memory result (C.flash self.new.chip) self.new.memory }
     {
-        self.end_batch(ticket, true)
+        self.end_batch(ticket, close_slot)
     }
 
     // Drops the open batch: none of its puts counts.
     pub fn abandon(&mut self, ticket: u32) -> Result<(), Refusal>
         ensures { Ends dropping ticket (C.flash self.old.chip) self.old.memory result (C.flash self.new.chip) self.new.memory }
     {
-        self.end_batch(ticket, false)
+        self.end_batch(ticket, drop_slot)
     }
 }

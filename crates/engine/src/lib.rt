@@ -14,6 +14,7 @@ mod wipe;
 
 pub use self::memory::{Batch, Memory, Started};
 pub use self::refusal::{Numbers, Refusal};
+pub use self::sector::Report;
 use chip::Chip;
 use label::{LabelBytes, Sizes, write_label};
 

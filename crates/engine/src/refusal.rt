@@ -1,10 +1,11 @@
 // Why a volume refuses a call.
-ghost use Rattle.std.specs.Prelude.{◌≡◌, ◌≤◌, [], ◌∷◌, length, take};
+ghost use Rattle.std.specs.Prelude.{◌≡◌, ◌≤◌, [], ◌∷◌, length};
 ghost use Rattle.engine.specs.Refusals.{numbers, converted, flawed};
 
 use chip::{Fault, Home};
 use image::{Broken, Flaw};
 use label::LabelFault;
+use std::marker::Model;
 
 #[derive(Clone, Copy, PartialEq, Eq, Debug)]
 pub enum Refusal {
@@ -40,18 +41,32 @@ pub enum Refusal {
     NoPower,
 }
 
-// A refusal's numbers: which one it is, and the values that come with it.
+// A refusal's numbers: which one it is, and the values that come with it. A volume has no heap, so they are the first of
+// three, and the rest are 0.
 #[derive(Clone, Copy)]
 pub struct Numbers {
     values: [usize; 3],
     count: usize,
-    ghost few: { count ≤ 3 },
-    ghost whole: { length values ≡ 3 },
+}
+
+// Callers see the list of those that count.
+impl Model for Numbers {
+    ghost use Rattle.std.specs.Prelude.{◌≡◌, ℕ, ◌≤◌, List, [], ◌∷◌, ◌++◌, length, take, refl};
+
+    ghost Value = { List ℕ };
+
+    ghost view = { λ n. take n.count n.values };
+
+    ghost invariant = { λ n. (n.count ≤ 3) × (length n.values ≡ 3) × (length (take n.count n.values) ≡ n.count) × (take 3 (take n.count n.values ++ 0 ∷ 0 ∷ 0 ∷ []) ≡ n.values) };
+
+    ghost inverse = { λ v. record { values = take 3 (v ++ 0 ∷ 0 ∷ 0 ∷ []); count = length v } };
+
+    ghost inverse_ok = { λ n h. rw (h.2, h.3) refl };
 }
 
 // A refusal that comes with no value.
 fn plain(number: usize) -> Numbers
-    ensures { take result.count result.values ≡ number ∷ [] }
+    ensures { result ≡ number ∷ [] }
 {
     Numbers {
         values: [number, 0, 0],
@@ -61,7 +76,7 @@ fn plain(number: usize) -> Numbers
 
 impl Refusal {
     pub fn as_numbers(&self) -> Numbers
-        ensures { take result.count result.values ≡ numbers self.now }
+        ensures { result ≡ numbers self.now }
     {
         match *self {
             Refusal::NotStarted => plain(1),
@@ -95,7 +110,8 @@ impl Refusal {
 impl Numbers {
     // The numbers, the refusal's own first.
     pub fn as_slice(&self) -> &[usize]
-        ensures { result.now ≡ take self.now.count self.now.values }
+        ensures numbers { result.now ≡ self.now }
+        ensures few { length result.now ≤ 3 }
     {
         &self.values[0..self.count]
     }

@@ -4,9 +4,19 @@ ghost use Rattle.engine.specs.Calls.{Reads, Reports};
 
 use crate::Engine;
 use crate::refusal::Refusal;
-use chip::{Chip, PAGE};
-use image::{read_sector, survey_among};
+use crate::serve::check_page;
+use chip::Chip;
+use image::{read_sector, survey_image};
 use ring::Sector;
+
+// Booked erases, unclaimed slots, written sectors, and unbooked erases that are left.
+#[derive(Clone, Copy, PartialEq, Eq, Debug)]
+pub struct Report {
+    pub booked: u32,
+    pub unclaimed: u16,
+    pub written: u16,
+    pub left: u32,
+}
 
 impl<C: Chip> Engine<C> {
     // Fills a page with what a sector holds, and says whether it is written; a page of FF hex stands for one that is not.
@@ -15,22 +25,22 @@ impl<C: Chip> Engine<C> {
         ensures keeps { (C.flash self.new.chip ≡ C.flash self.old.chip) × (self.new.memory ≡ self.old.memory) }
     {
         let started = self.serving()?;
-        if into.len() != PAGE {
-            return Err(Refusal::Length);
-        }
-        if sector.0 >= started.log.layout.sizes.sectors {
-            return Err(Refusal::NoSector);
-        }
+        check_page(started, sector, into.len())?;
         Ok(read_sector(&mut self.chip, started.log, sector, into))
     }
 
-    // Booked erases, unclaimed slots, written sectors, and unbooked erases that are left.
-    pub fn report(&mut self) -> Result<(u32, u16, u16, u32), Refusal>
+    // Tells how a started volume stands.
+    pub fn report(&mut self) -> Result<Report, Refusal>
         ensures reports { Reports (C.flash self.old.chip) self.old.memory result }
         ensures keeps { (C.flash self.new.chip ≡ C.flash self.old.chip) × (self.new.memory ≡ self.old.memory) }
     {
         let started = self.serving()?;
-        let survey = survey_among(&mut self.chip, started.log);
-        Ok((survey.booked, survey.unclaimed, survey.written, survey.left))
+        let survey = survey_image(&mut self.chip, started.log);
+        Ok(Report {
+            booked: survey.booked,
+            unclaimed: survey.unclaimed,
+            written: survey.written,
+            left: survey.left,
+        })
     }
 }

@@ -1,13 +1,14 @@
-// Whether a volume serves calls, and a ticket's batch.
+// Whether a volume serves calls, and what they ask for.
 ghost use Rattle.std.specs.Prelude.{◌≡◌};
 ghost use Rattle.chip.specs.Ranges.{Tells};
-ghost use Rattle.engine.specs.Memories.{Fits, Served, Held};
+ghost use Rattle.engine.specs.Memories.{Fits, Served, Held, Numbered, Paged};
 
 use crate::Engine;
 use crate::memory::{Batch, Started};
 use crate::refusal::Refusal;
-use chip::Chip;
-use image::Log;
+use chip::{Chip, PAGE};
+use ring::Sector;
+use ring::layout::Log;
 
 // Whether a log fits the chip that it should be on. It asks for nothing that a chip would have to read.
 fn fits<C: Chip>(chip: &C, log: Log) -> bool
@@ -25,13 +26,30 @@ fn fits<C: Chip>(chip: &C, log: Log) -> bool
 pub fn batch_of(started: Started, ticket: u32) -> Result<Batch, Refusal>
     ensures { Held started ticket result }
 {
-    let Some(batch) = started.batch else {
-        return Err(Refusal::OtherTicket);
-    };
-    if batch.ticket != ticket {
-        return Err(Refusal::OtherTicket);
+    started
+        .batch
+        .filter(|batch| batch.ticket == ticket)
+        .ok_or(Refusal::OtherTicket)
+}
+
+// Whether there is a sector of that number.
+pub fn check_sector(started: Started, sector: Sector) -> Result<(), Refusal>
+    ensures { Numbered started sector.0 result }
+{
+    if sector.0 >= started.log.layout.sizes.sectors {
+        return Err(Refusal::NoSector);
     }
-    Ok(batch)
+    Ok(())
+}
+
+// The same, and whether a buffer is as long as a page.
+pub fn check_page(started: Started, sector: Sector, len: usize) -> Result<(), Refusal>
+    ensures { Paged started sector.0 len result }
+{
+    if len != PAGE {
+        return Err(Refusal::Length);
+    }
+    check_sector(started, sector)
 }
 
 impl<C: Chip> Engine<C> {
@@ -39,12 +57,9 @@ impl<C: Chip> Engine<C> {
     pub(crate) fn serving(&self) -> Result<Started, Refusal>
         ensures { Served (C.flash self.now.chip) self.now.memory result }
     {
-        let Some(started) = self.memory.started else {
-            return Err(Refusal::NotStarted);
-        };
-        if !fits(&self.chip, started.log) {
-            return Err(Refusal::NotStarted);
-        }
-        Ok(started)
+        self.memory
+            .started
+            .filter(|started| fits(&self.chip, started.log))
+            .ok_or(Refusal::NotStarted)
     }
 }

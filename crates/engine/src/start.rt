@@ -2,7 +2,6 @@
 ghost use Rattle.engine.specs.Calls.{Starts};
 
 use crate::Engine;
-use crate::memory::Started;
 use crate::refusal::Refusal;
 use chip::Chip;
 use image::examine;
@@ -17,7 +16,7 @@ impl<C: Chip> Engine<C> {
         self.chip.power_on();
         let found = examine(&mut self.chip)?;
         let log = repair(&mut self.chip, found)?;
-        self.memory.started = Some(Started { log, batch: None });
+        self.memory.idle(log);
         Ok(())
     }
 }

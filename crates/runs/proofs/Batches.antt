@@ -1,7 +1,7 @@
 -- The calls on an open batch: put, close and drop.
-use Rattle.std.proofs.Common.{◌≡◌, ℕ, ◌+◌, ◌-◌, ◌<◌, ◌≤◌, Bool, true, false, cond, ◌⊎◌, List, [], ◌∷◌, ◌++◌, length, get_or, Some, None, Ok, Err, Option, Result, sym, refl, ap, ◌∙◌, subst, inl, inr, ⊎_elim, append_assoc, append-nil, arith, length-append, Bor}
+use Rattle.std.proofs.Common.{◌≡◌, ℕ, ◌+◌, ◌-◌, ◌<◌, ◌≤◌, Bool, true, false, cond, eqb, ◌⊎◌, List, [], ◌∷◌, ◌++◌, length, get_or, Some, None, Ok, Err, Option, Result, sym, refl, ap, ◌∙◌, subst, inl, inr, ⊎_elim, append_assoc, append-nil, arith, length-append, Bor}
 use mathlib.Core.List.{map-append}
-use Rattle.std.proofs.lemmas.Bool.{eq-eqb, ne_eqb, cond-true, cond-false}
+use Rattle.std.proofs.lemmas.Bool.{eq-eqb, cond-true, cond-false}
 use Rattle.chip.specs.declared.Home.{Home}
 use Rattle.chip.specs.declared.Fault.{Fault}
 use Rattle.chip.specs.Flash.{Flash}
@@ -32,9 +32,7 @@ use Rattle.engine.specs.Memories.{Serves, Mine, sizes_of, cleared_of, claimed_of
 use Rattle.engine.specs.Calls as calls
 use Rattle.engine.specs.Calls.{CutAt, Puttable, Puts, Ends}
 use Rattle.runs.specs.declared.run.Call.TheVariants as call
-use Rattle.runs.specs.declared.run.Answer.{Answer}
-use Rattle.runs.specs.declared.run.Answer.TheVariants as answer
-use Rattle.runs.specs.Ledger.{Ledger, puts_of, joined, over, written, is_cut, enter}
+use Rattle.runs.specs.Ledger.{Ledger, puts_of, joined, over, written, is_cut, enter, Answer}
 use Rattle.runs.specs.Runs.{said}
 use Rattle.runs.proofs.Standing.{Room, Batched, Stands, Kept, Inv, Next}
 use Rattle.runs.proofs.Common.{kept_of, carries_of, label_kept, sized_kept}
@@ -43,9 +41,8 @@ use Rattle.runs.proofs.Common.{kept_of, carries_of, label_kept, sized_kept}
 pub cut_ledger : (P : Ledger → Type 0) (k l : Ledger) (e : Refusal) {h : Home} → CutAt e h → P k → P (cond (is_cut e) k l)
 cut_ledger P k l e is p = subst P (sym (cond-true _ _ _ (eq-eqb (row e) 13 (ap (λ ns. get_or ns 0 0) is)))) p
 
-pub same_ledger : (P : Ledger → Type 0) (k l : Ledger) (e : Refusal) {i : ℕ} → numbers e ≡ i ∷ [] → (i ≡ 13 → ⊥) → P l → P (cond (is_cut e) k l)
-same_ledger P k l e is other p =
-    subst P (sym (cond-false _ _ _ (ne_eqb (row e) 13 (λ same. other (sym (ap (λ ns. get_or ns 0 0) is) ∙ same))))) p
+pub same_ledger : (P : Ledger → Type 0) (k l : Ledger) (e : Refusal) {i : ℕ} → numbers e ≡ i ∷ [] → eqb i 13 ≡ false → P l → P (cond (is_cut e) k l)
+same_ledger P k l e is other p = subst P (sym (cond-false _ _ _ (ap (λ ns. eqb (get_or ns 0 0) 13) is ∙ other))) p
 
 -- the invariant after a plan of one slot
 pub settled : {z : Sizes} {s t : Flash} {m w : Memory} {l k : Ledger} {ps : List Step} {r : Result (Unit {0}) Fault} (y : Sizes) (c p : ℕ) → Inv z s m l → Performs ps s r t → AllOfSlot y c p ps → Carries t z k.sectors → Kept z t w.started k → Inv z t w k
@@ -319,15 +316,15 @@ next_put {z} {s} {m = m} {l = l} {n = n} {x = x} {page = page} inv does = go doe
     comes : {a : Answer} {t : Flash} {w : Memory} → Inv z t w (enter false l (call.Put n x page) a) → Next z s m l (call.Put n x page) a t w
     comes k = record { choice = false; inv = k; meets = tt; promised = tt }
 
-    refused : (e : Refusal) {i : ℕ} → numbers e ≡ i ∷ [] → (i ≡ 13 → ⊥) → Next z s m l (call.Put n x page) (answer.Refused e) s m
+    refused : (e : Refusal) {i : ℕ} → numbers e ≡ i ∷ [] → eqb i 13 ≡ false → Next z s m l (call.Put n x page) (Err e) s m
     refused e is other = comes (same_ledger (Inv z s m) (over l) l e is other inv)
 
     go : {r : Result (Unit {0}) Refusal} {t : Flash} {w : Memory} → Puts n x.0 page.now s m r t w → Next z s m l (call.Put n x page) (said r) t w
-    go (calls.stopped {e} is none) = refused e is (λ q. omega (arith, q))
-    go (calls.other {e} is serves none) = refused e is (λ q. omega (arith, q))
-    go (calls.no_page {e} is serves mine ne) = refused e is (λ q. omega (arith, q))
-    go (calls.sector {e} is serves mine long out) = refused e is (λ q. omega (arith, q))
-    go (calls.full {e} is serves mine long inside most) = refused e is (λ q. omega (arith, q))
+    go (calls.stopped {e} is none) = refused e is refl
+    go (calls.other {e} is serves none) = refused e is refl
+    go (calls.no_page {e} is serves mine ne) = refused e is refl
+    go (calls.sector {e} is serves mine long out) = refused e is refl
+    go (calls.full {e} is serves mine long inside most) = refused e is refl
     go {t = t} (calls.done can h) = comes (put_inv inv can.serves can.mine p can t h)
     go {t = t} (calls.cut {e} is can h) =
         comes (cut_ledger (Inv z t (halted m)) (over l) l e is (put_cut_inv inv can.serves can.mine p can t h))
@@ -339,12 +336,12 @@ next_close {z} {s} {m = m} {l = l} {n = n} inv does = go does
     comes : {a : Answer} {t : Flash} {w : Memory} (all : Bool) → Inv z t w (enter all l (call.Close n) a) → Next z s m l (call.Close n) a t w
     comes all k = record { choice = all; inv = k; meets = tt; promised = tt }
 
-    refused : (e : Refusal) {i : ℕ} → numbers e ≡ i ∷ [] → (i ≡ 13 → ⊥) → Next z s m l (call.Close n) (answer.Refused e) s m
+    refused : (e : Refusal) {i : ℕ} → numbers e ≡ i ∷ [] → eqb i 13 ≡ false → Next z s m l (call.Close n) (Err e) s m
     refused e is other = comes false (same_ledger (Inv z s m) (over l) l e is other inv)
 
     go : {r : Result (Unit {0}) Refusal} {t : Flash} {w : Memory} → Ends closing n s m r t w → Next z s m l (call.Close n) (said r) t w
-    go (calls.stopped {e} is none) = refused e is (λ q. omega (arith, q))
-    go (calls.other {e} is serves none) = refused e is (λ q. omega (arith, q))
+    go (calls.stopped {e} is none) = refused e is refl
+    go (calls.other {e} is serves none) = refused e is refl
     go (calls.empty serves mine none) =
         comes false (empty_inv inv serves mine none (written l) refl (unwritten inv serves mine none))
     go {t = t} (calls.done serves mine some h) = comes false (close_inv inv serves mine some t h)
@@ -361,12 +358,12 @@ next_drop {z} {s} {m = m} {l = l} {n = n} inv does = go does
     comes : {a : Answer} {t : Flash} {w : Memory} → Inv z t w (enter false l (call.Drop n) a) → Next z s m l (call.Drop n) a t w
     comes k = record { choice = false; inv = k; meets = tt; promised = tt }
 
-    refused : (e : Refusal) {i : ℕ} → numbers e ≡ i ∷ [] → (i ≡ 13 → ⊥) → Next z s m l (call.Drop n) (answer.Refused e) s m
+    refused : (e : Refusal) {i : ℕ} → numbers e ≡ i ∷ [] → eqb i 13 ≡ false → Next z s m l (call.Drop n) (Err e) s m
     refused e is other = comes (same_ledger (Inv z s m) (over l) l e is other inv)
 
     go : {r : Result (Unit {0}) Refusal} {t : Flash} {w : Memory} → Ends dropping n s m r t w → Next z s m l (call.Drop n) (said r) t w
-    go (calls.stopped {e} is none) = refused e is (λ q. omega (arith, q))
-    go (calls.other {e} is serves none) = refused e is (λ q. omega (arith, q))
+    go (calls.stopped {e} is none) = refused e is refl
+    go (calls.other {e} is serves none) = refused e is refl
     go (calls.empty serves mine none) = comes (empty_inv inv serves mine none (over l) refl (λ x. refl))
     go {t = t} (calls.done serves mine some h) = comes (drop_inv inv serves mine some t h)
     go {t = t} (calls.cut {e} is serves mine some h) =

@@ -1,11 +1,11 @@
 -- Chains of turns, and runs, with one more turn at the end.
-use Rattle.std.proofs.Common.{◌≡◌, ℕ, List, [], ◌∷◌, ◌++◌, map, sym, refl, ap, ◌∙◌, subst}
+use Rattle.std.proofs.Common.{◌≡◌, ℕ, List, [], ◌∷◌, ◌++◌, sym, refl, ap, ◌∙◌, subst}
+use mathlib.Core.List.{map-append}
 use Rattle.chip.specs.Flash.{Flash}
 use Rattle.label.specs.declared.Sizes.{Sizes}
 use Rattle.engine.specs.declared.memory.Memory.{Memory}
 use Rattle.runs.specs.declared.run.Call.{Call}
-use Rattle.runs.specs.declared.run.Answer.{Answer}
-use Rattle.runs.specs.Ledger.{Ledger, blank, enter}
+use Rattle.runs.specs.Ledger.{Ledger, blank, enter, Answer}
 use Rattle.runs.specs.Runs.{Calls}
 use Rattle.runs.specs.Law.{Turn, Link, Chain, none, more, call_of, answer_of, Ran}
 use Rattle.runs.proofs.Common.{serves_of}
@@ -26,11 +26,6 @@ last_more l (t ∷ ts) turn = last_more t.ledger ts turn
 pub chain_more : {room : ℕ} {z : Sizes} {s t : Flash} {m w : Memory} {l : Ledger} {turns : List Turn} → Chain room z s m l turns t w → (turn : Turn) → Link room z t w (last_ledger l turns) turn → Chain room z s m l (turns ++ (turn ∷ [])) turn.flash turn.memory
 chain_more none turn link = more link none
 chain_more (more first rest) turn link = more first (chain_more rest turn link)
-
--- what is noted of each turn, with one more
-map_more : {A : Type 0} (f : Turn → A) (turns : List Turn) (turn : Turn) → map f (turns ++ (turn ∷ [])) ≡ map f turns ++ (f turn ∷ [])
-map_more f [] turn = refl
-map_more {A} f (t ∷ ts) turn = ap (λ (l : List A). f t ∷ l) (map_more f ts turn)
 
 -- a run, and the invariant at its end
 pub record Running (room : ℕ) (z : Sizes) (s : Flash) (m : Memory) (calls : List Call) (answers : List Answer) (t : Flash) (w : Memory) : Type 0 where
@@ -58,8 +53,8 @@ running_more {room} {z} {s} {t} {u} {m} {w} {v} {calls} {answers} {call} {answer
     record {
       ran = record {
         turns = turns ++ (turn ∷ []);
-        called = map_more call_of turns turn ∙ ap (λ (l : List Call). l ++ (call ∷ [])) ran.called;
-        answered = map_more answer_of turns turn ∙ ap (λ (l : List Answer). l ++ (answer ∷ [])) ran.answered;
+        called = map-append call_of turns (turn ∷ []) ∙ ap (λ (l : List Call). l ++ (call ∷ [])) ran.called;
+        answered = map-append answer_of turns (turn ∷ []) ∙ ap (λ (l : List Answer). l ++ (answer ∷ [])) ran.answered;
         chain = chain;
         recalls = recalled chain;
       };

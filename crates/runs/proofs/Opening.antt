@@ -1,5 +1,5 @@
 -- An open of a volume that keeps the invariant, and the promise on it.
-use Rattle.std.proofs.Common.{◌≡◌, ℕ, ◌+◌, ◌-◌, ◌*◌, ◌<◌, ◌≤◌, true, false, List, [], ◌++◌, length, is_some, Some, None, Ok, Err, Option, Result, sym, refl, ap, ◌∙◌, subst, inl, inr, true≢false, arith}
+use Rattle.std.proofs.Common.{◌≡◌, ℕ, ◌+◌, ◌-◌, ◌*◌, ◌<◌, ◌≤◌, true, false, List, [], ◌++◌, length, Some, None, Ok, Err, Option, Result, sym, refl, ap, ◌∙◌, subst, inl, inr, arith}
 use Rattle.chip.specs.declared.Fault.{Fault}
 use Rattle.chip.specs.Flash.{Flash}
 use Rattle.chip.specs.Steps.{Step}
@@ -24,7 +24,7 @@ use Rattle.engine.specs.Memories.{largest_batch, sizes_of, cleared_of, claimed_o
 use Rattle.engine.specs.Calls as calls
 use Rattle.engine.specs.Calls.{Openable, Opens}
 use Rattle.runs.specs.declared.run.Call.TheVariants as call
-use Rattle.runs.specs.declared.run.Answer.TheVariants as answer
+use Rattle.runs.specs.declared.run.Reply.TheVariants as reply
 use Rattle.runs.specs.Ledger.{Ledger}
 use Rattle.runs.specs.Runs.{given}
 use Rattle.runs.specs.Law.{cleared_on, OpensWell}
@@ -52,10 +52,10 @@ one_started o a b p q = cc
 
 -- no batch is not a batch
 none_some : (o : Option Batch) (b : Batch) → o ≡ None → o ≡ Some b → ⊥
-none_some o b p q = true≢false (ap (λ (x : Option Batch). is_some x) (sym q ∙ p))
+none_some o b p q = cc
 
 -- a refusal before room is made changes nothing
-same_next : {z : Sizes} {n : ℕ} {s : Flash} {m : Memory} {l : Ledger} (e : Refusal) → Inv z s m l → ((st : Started) → m.started ≡ Some st → st.batch ≡ None → 1 ≤ n → n ≤ largest_batch → OpensWell z n m s (answer.Refused e)) → Next z s m l (call.Open n) (answer.Refused e) s m
+same_next : {z : Sizes} {n : ℕ} {s : Flash} {m : Memory} {l : Ledger} (e : Refusal) → Inv z s m l → ((st : Started) → m.started ≡ Some st → st.batch ≡ None → 1 ≤ n → n ≤ largest_batch → OpensWell z n m s (Err e)) → Next z s m l (call.Open n) (Err e) s m
 same_next e inv answers = record {
   choice = false;
   inv = inv;
@@ -90,7 +90,7 @@ module _ {z : Sizes} {n : ℕ} {s : Flash} {m : Memory} {l : Ledger} {st : Start
   books t d is most = omega (arith, is, most, cleared_is s z (cleared_of st) stands.ended_entries stands.shaped sane)
 
   -- there is room
-  made : {d u : ℕ} {t : Flash} → Rooms (n + 7) z s (cleared_of st) (claimed_of st) (Ok (reclaims.made d u)) t → Next z s m l (call.Open n) (answer.Opened (m.tickets + 1)) t (opened m (log_at (sizes_of st) d u) n)
+  made : {d u : ℕ} {t : Flash} → Rooms (n + 7) z s (cleared_of st) (claimed_of st) (Ok (reclaims.made d u)) t → Next z s m l (call.Open n) (Ok (reply.Opened (m.tickets + 1))) t (opened m (log_at (sizes_of st) d u) n)
   made {d} {u} {t} h =
       let made : Roomed t z (cleared_of st) stands.ended_entries d u × (n + 7 ≤ positions z d - u) =
       rooms_made stands.ended_entries stands.shaped stands.even sane stands.ended count inv.sized.sectors_most (omega (arith, asked.most)) h in
@@ -110,7 +110,7 @@ module _ {z : Sizes} {n : ℕ} {s : Flash} {m : Memory} {l : Ledger} {st : Start
       }
 
   -- there is none, and the tally is spent
-  spent : {d u : ℕ} {t : Flash} {e : Refusal} → row e ≡ 12 → Rooms (n + 7) z s (cleared_of st) (claimed_of st) (Ok (reclaims.spent d u)) t → Next z s m l (call.Open n) (answer.Refused e) t (idle m (log_at (sizes_of st) d u))
+  spent : {d u : ℕ} {t : Flash} {e : Refusal} → row e ≡ 12 → Rooms (n + 7) z s (cleared_of st) (claimed_of st) (Ok (reclaims.spent d u)) t → Next z s m l (call.Open n) (Err e) t (idle m (log_at (sizes_of st) d u))
   spent {d} {u} {t} twelve h =
       let spent : Roomed t z (cleared_of st) stands.ended_entries d u × (positions z d - u < n + 7) × (tally_bits z.tally ≤ d) =
       rooms_spent stands.ended_entries stands.shaped stands.even sane stands.ended count inv.sized.sectors_most (omega (arith, asked.most)) h in
@@ -133,7 +133,7 @@ module _ {z : Sizes} {n : ℕ} {s : Flash} {m : Memory} {l : Ledger} {st : Start
       }
 
   -- power fails
-  cut : {t : Flash} {e : Refusal} {f : Fault} → row e ≡ 13 → Rooms (n + 7) z s (cleared_of st) (claimed_of st) (Err f) t → Next z s m l (call.Open n) (answer.Refused e) t (halted m)
+  cut : {t : Flash} {e : Refusal} {f : Fault} → row e ≡ 13 → Rooms (n + 7) z s (cleared_of st) (claimed_of st) (Err f) t → Next z s m l (call.Open n) (Err e) t (halted m)
   cut {t} thirteen h =
       let cut : StillBy t z stands.ended_entries (cleared_of st + 2 * z.ring) =
       rooms_cut stands.ended_entries stands.shaped stands.even sane stands.ended count inv.sized.sectors_most (omega (arith, asked.most)) h in

@@ -11,9 +11,10 @@ use Rattle.holding.proofs.Closing.{holds_open}
 use Rattle.engine.specs.declared.memory.Memory.{Memory}
 use Rattle.engine.specs.declared.memory.Started.{Started}
 use Rattle.engine.specs.declared.refusal.Refusal.{Refusal}
+use Rattle.engine.specs.declared.sector.Report.{Report}
 use Rattle.engine.specs.Memories.{sizes_of, cleared_of, claimed_of}
 use Rattle.engine.specs.Calls as calls
-use Rattle.engine.specs.Calls.{Reads, Figures, Reports}
+use Rattle.engine.specs.Calls.{Reads, Reports}
 use Rattle.runs.specs.declared.run.Call.TheVariants as call
 use Rattle.runs.specs.Ledger.{Ledger}
 use Rattle.runs.specs.Runs.{shown, told}
@@ -53,5 +54,5 @@ next_read {z} {s} {m} {l} {x} inv (calls.done {st} {found} {new} serves whole in
     }
 
 -- a report
-pub next_report : {z : Sizes} {s : Flash} {m : Memory} {l : Ledger} {r : Result Figures Refusal} → Inv z s m l → Reports s m r → Next z s m l call.Report (told r) s m
+pub next_report : {z : Sizes} {s : Flash} {m : Memory} {l : Ledger} {r : Result Report Refusal} → Inv z s m l → Reports s m r → Next z s m l call.Report (told r) s m
 next_report inv h = record { choice = false; inv = inv; meets = tt; promised = tt }

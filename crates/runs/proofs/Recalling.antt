@@ -1,5 +1,5 @@
 -- What a read showed of a sector is what it holds after a later start, if no turn between them overwrote it.
-use Rattle.std.proofs.Common.{◌≡◌, ℕ, ◌<◌, Bool, true, false, cond, ◌||◌, eqb, List, [], ◌∷◌, ◌++◌, Some, Option, sym, refl, ap, ◌∙◌, subst}
+use Rattle.std.proofs.Common.{◌≡◌, ℕ, ◌<◌, Bool, true, false, cond, ◌||◌, eqb, List, [], ◌∷◌, ◌++◌, Some, Ok, Err, Option, sym, refl, ap, ◌∙◌, subst}
 use Rattle.std.proofs.lemmas.Bool.{eqb-true}
 use Rattle.chip.specs.Flash.{Flash}
 use Rattle.label.specs.declared.Sizes.{Sizes}
@@ -9,9 +9,8 @@ use Rattle.engine.specs.declared.memory.Memory.{Memory}
 use Rattle.engine.specs.Refusals.{row}
 use Rattle.runs.specs.declared.run.Call.{Call}
 use Rattle.runs.specs.declared.run.Call.TheVariants as call
-use Rattle.runs.specs.declared.run.Answer.{Answer}
-use Rattle.runs.specs.declared.run.Answer.TheVariants as answer
-use Rattle.runs.specs.Ledger.{Ledger, puts_of, over, written, is_cut, enter, puts_to}
+use Rattle.runs.specs.declared.run.Reply.TheVariants as reply
+use Rattle.runs.specs.Ledger.{Ledger, puts_of, over, written, is_cut, enter, puts_to, Answer}
 use Rattle.runs.specs.Law.{Turn, holding, Agrees, Meets, Chain, more, Overwrites, Spared, Recalls}
 
 -- puts to other sectors leave what a sector holds
@@ -37,34 +36,34 @@ cut_still false all l x h = refl
 -- a turn that does not overwrite a sector leaves what the ledger says of it
 pub enter_still : (all : Bool) (l : Ledger) (x : ℕ) (c : Call) (a : Answer) → (Overwrites l x c a → ⊥) → (enter all l c a).sectors x ≡ l.sectors x
 enter_still all l x call.Start a h = refl
-enter_still all l x (call.Open n) answer.Done h = refl
-enter_still all l x (call.Open n) (answer.Opened k) h = refl
-enter_still all l x (call.Open n) (answer.Shown found page) h = refl
-enter_still all l x (call.Open n) (answer.Figures a b c d) h = refl
-enter_still all l x (call.Open n) (answer.Refused e) h = refl
-enter_still all l x (call.Put n y page) answer.Done h = refl
-enter_still all l x (call.Put n y page) (answer.Opened k) h = refl
-enter_still all l x (call.Put n y page) (answer.Shown found shown) h = refl
-enter_still all l x (call.Put n y page) (answer.Figures a b c d) h = refl
-enter_still all l x (call.Put n y page) (answer.Refused e) h = over_still (is_cut e) l x
-enter_still all l x (call.Close n) answer.Done h = wrote_still x (l.sectors x) (puts_of l.batch) h
-enter_still all l x (call.Close n) (answer.Opened k) h = refl
-enter_still all l x (call.Close n) (answer.Shown found page) h = refl
-enter_still all l x (call.Close n) (answer.Figures a b c d) h = refl
-enter_still all l x (call.Close n) (answer.Refused e) h = cut_still (is_cut e) all l x (λ cut to. h (eqb-true (row e) 13 cut, to))
-enter_still all l x (call.Drop n) answer.Done h = refl
-enter_still all l x (call.Drop n) (answer.Opened k) h = refl
-enter_still all l x (call.Drop n) (answer.Shown found page) h = refl
-enter_still all l x (call.Drop n) (answer.Figures a b c d) h = refl
-enter_still all l x (call.Drop n) (answer.Refused e) h = over_still (is_cut e) l x
+enter_still all l x (call.Open n) (Ok reply.Done) h = refl
+enter_still all l x (call.Open n) (Ok (reply.Opened k)) h = refl
+enter_still all l x (call.Open n) (Ok (reply.Shown found page)) h = refl
+enter_still all l x (call.Open n) (Ok (reply.Figures f)) h = refl
+enter_still all l x (call.Open n) (Err e) h = refl
+enter_still all l x (call.Put n y page) (Ok reply.Done) h = refl
+enter_still all l x (call.Put n y page) (Ok (reply.Opened k)) h = refl
+enter_still all l x (call.Put n y page) (Ok (reply.Shown found shown)) h = refl
+enter_still all l x (call.Put n y page) (Ok (reply.Figures f)) h = refl
+enter_still all l x (call.Put n y page) (Err e) h = over_still (is_cut e) l x
+enter_still all l x (call.Close n) (Ok reply.Done) h = wrote_still x (l.sectors x) (puts_of l.batch) h
+enter_still all l x (call.Close n) (Ok (reply.Opened k)) h = refl
+enter_still all l x (call.Close n) (Ok (reply.Shown found page)) h = refl
+enter_still all l x (call.Close n) (Ok (reply.Figures f)) h = refl
+enter_still all l x (call.Close n) (Err e) h = cut_still (is_cut e) all l x (λ cut to. h (eqb-true (row e) 13 cut, to))
+enter_still all l x (call.Drop n) (Ok reply.Done) h = refl
+enter_still all l x (call.Drop n) (Ok (reply.Opened k)) h = refl
+enter_still all l x (call.Drop n) (Ok (reply.Shown found page)) h = refl
+enter_still all l x (call.Drop n) (Ok (reply.Figures f)) h = refl
+enter_still all l x (call.Drop n) (Err e) h = over_still (is_cut e) l x
 enter_still all l x (call.Read y len) a h = refl
 enter_still all l x call.Report a h = refl
 
-module _ {room : ℕ} {z : Sizes} (starts : Turn) (after : List Turn) (x : Sector) (found : Bool) (page : List ℕ) (is-start : starts.call ≡ call.Start) (is-done : starts.answer ≡ answer.Done) where
+module _ {room : ℕ} {z : Sizes} (starts : Turn) (after : List Turn) (x : Sector) (found : Bool) (page : List ℕ) (is-start : starts.call ≡ call.Start) (is-done : starts.answer ≡ Ok reply.Done) where
   -- from what the ledger says of a sector to what it holds after the start
   from_ledger : {s t : Flash} {m w : Memory} {l : Ledger} (between : List Turn) → Spared x.0 l between → x.0 < z.sectors → Agrees found page (l.sectors x.0) → Chain room z s m l (between ++ (starts ∷ after)) t w → Agrees found page (holding z starts.flash x.0)
   from_ledger {s} {t} {m} {w} {l} [] spared inside agrees (more link rest) =
-      let meets : Meets z starts.ledger starts.flash call.Start answer.Done =
+      let meets : Meets z starts.ledger starts.flash call.Start (Ok reply.Done) =
       subst (Meets z starts.ledger starts.flash call.Start) is-done
       (subst (λ (c : Call). Meets z starts.ledger starts.flash c starts.answer) is-start link.meets) in
       let enters : starts.ledger ≡ over l = link.enters ∙ ap (λ (c : Call). enter starts.choice l c starts.answer) is-start in
@@ -76,9 +75,9 @@ module _ {room : ℕ} {z : Sizes} (starts : Turn) (after : List Turn) (x : Secto
       from_ledger turns spared.1 inside (subst (Agrees found page) (sym still) agrees) rest
 
   -- from the read, which showed what the ledger says
-  from_read : {s t : Flash} {m w : Memory} {l : Ledger} (shows : Turn) (len : ℕ) (before between : List Turn) → shows.call ≡ call.Read x len → shows.answer ≡ answer.Shown found page → Spared x.0 shows.ledger between → Chain room z s m l (before ++ (shows ∷ (between ++ (starts ∷ after)))) t w → Agrees found page (holding z starts.flash x.0)
+  from_read : {s t : Flash} {m w : Memory} {l : Ledger} (shows : Turn) (len : ℕ) (before between : List Turn) → shows.call ≡ call.Read x len → shows.answer ≡ Ok (reply.Shown found page) → Spared x.0 shows.ledger between → Chain room z s m l (before ++ (shows ∷ (between ++ (starts ∷ after)))) t w → Agrees found page (holding z starts.flash x.0)
   from_read shows len [] between is_read is-shown spared (more link rest) =
-      let meets : Meets z shows.ledger shows.flash (call.Read x len) (answer.Shown found page) =
+      let meets : Meets z shows.ledger shows.flash (call.Read x len) (Ok (reply.Shown found page)) =
       subst (Meets z shows.ledger shows.flash (call.Read x len)) is-shown
       (subst (λ (c : Call). Meets z shows.ledger shows.flash c shows.answer) is_read link.meets) in
       from_ledger between spared meets.0 meets.1 rest

@@ -16,8 +16,7 @@ use Rattle.engine.specs.declared.memory.Started.{Started}
 use Rattle.engine.specs.declared.memory.Memory.{Memory}
 use Rattle.engine.specs.Memories.{sizes_of, cleared_of, claimed_of}
 use Rattle.runs.specs.declared.run.Call.{Call}
-use Rattle.runs.specs.declared.run.Answer.{Answer}
-use Rattle.runs.specs.Ledger.{Ledger, enter}
+use Rattle.runs.specs.Ledger.{Ledger, enter, Answer}
 use Rattle.runs.specs.Law.{Meets, Promised}
 
 -- the open batch of a volume and that of the ledger agree, and there is room for its puts and seven more; `free` is how

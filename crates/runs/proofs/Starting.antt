@@ -13,7 +13,7 @@ use Rattle.ring.specs.Logs as logs
 use Rattle.ring.specs.Logs.{Entry, holds}
 use Rattle.ring.specs.Rules as rules
 use Rattle.ring.specs.Rules.{Breach, Broken}
-use Rattle.image.specs.declared.verdict.Log.{Log}
+use Rattle.ring.specs.declared.layout.Log.{Log}
 use Rattle.image.specs.Fronts.{front_page, LabelledBy}
 use Rattle.image.specs.Examined.{Sound, Unsound}
 use Rattle.laid.specs.Sane.{Sane}
@@ -30,7 +30,7 @@ use Rattle.engine.specs.Memories.{log_at, halted, idle}
 use Rattle.engine.specs.Calls as calls
 use Rattle.engine.specs.Calls.{Starts}
 use Rattle.runs.specs.declared.run.Call.TheVariants as call
-use Rattle.runs.specs.declared.run.Answer.TheVariants as answer
+use Rattle.runs.specs.declared.run.Reply.TheVariants as reply
 use Rattle.runs.specs.Ledger.{Ledger}
 use Rattle.runs.specs.Runs.{said}
 use Rattle.runs.proofs.Standing.{Inv, Next}
@@ -102,7 +102,7 @@ module _ {z : Sizes} {s : Flash} {m : Memory} {l : Ledger} (inv : Inv z s m l) w
       front : {t : Flash} {r : Result (Unit {0}) Fault} → Performs plan (awake s) r t → (o : ℕ) → t.byte 0 o ≡ s.byte 0 o
       front h = front_kept h (past_repairs (awake s) z bits (length entries) about)
 
-      started : {t : Flash} → Performs plan (awake s) (Ok tt) t → Next z s m l call.Start answer.Done t (idle m (log_at log.layout.sizes c log.claimed))
+      started : {t : Flash} → Performs plan (awake s) (Ok tt) t → Next z s m l call.Start (Ok reply.Done) t (idle m (log_at log.layout.sizes c log.claimed))
       started {t} h =
           let x : Repaired t z c entries = repaired (awake s) t z bits entries inv.carries.shaped sane about h in
           let says : (n : ℕ) → holds n x.0 ≡ l.sectors n = λ n. x.6 n ∙ inv.carries.holds n in
@@ -115,7 +115,7 @@ module _ {z : Sizes} {s : Flash} {m : Memory} {l : Ledger} (inv : Inv z s m l) w
             promised = tt;
           }
 
-      cut : {t : Flash} {e : Refusal} {f : Fault} → row e ≡ 13 → Performs plan (awake s) (Err f) t → Next z s m l call.Start (answer.Refused e) t (halted m)
+      cut : {t : Flash} {e : Refusal} {f : Fault} → row e ≡ 13 → Performs plan (awake s) (Err f) t → Next z s m l call.Start (Err e) t (halted m)
       cut {t} thirteen h =
           let x : Still t z entries = repaired_cut (awake s) t z bits entries inv.carries.shaped sane about h in
           record {

@@ -14,9 +14,8 @@ use Rattle.engine.specs.Formats.{sizes_on, Accepts, Formats, Untouched}
 use Rattle.engine.specs.Memories.{largest_batch, most_tickets, Serves, halted, Forgets}
 use Rattle.runs.specs.declared.run.Call.{Call}
 use Rattle.runs.specs.declared.run.Call.TheVariants as call
-use Rattle.runs.specs.declared.run.Answer.{Answer}
-use Rattle.runs.specs.declared.run.Answer.TheVariants as answer
-use Rattle.runs.specs.Ledger.{Ledger, blank, puts_of, enter, puts_to}
+use Rattle.runs.specs.declared.run.Reply.TheVariants as reply
+use Rattle.runs.specs.Ledger.{Ledger, blank, puts_of, enter, puts_to, Answer}
 use Rattle.runs.specs.Runs.{Calls}
 
 -- what a sector holds on a chip, the cleared bits of its tally, and its unclaimed slots
@@ -46,19 +45,19 @@ Agrees false page o = (o ≡ None) × (page ≡ replicate 512 255)
 
 -- a start is accepted unless power fails in it, and then every sector holds what the ledger says
 abbrev StartsWell : Sizes → Ledger → Flash → Answer → Type 0
-StartsWell z l t answer.Done = (x : ℕ) → x < z.sectors → holding z t x ≡ l.sectors x
-StartsWell z l t (answer.Opened k) = ⊥
-StartsWell z l t (answer.Shown found page) = ⊥
-StartsWell z l t (answer.Figures a b c d) = ⊥
-StartsWell z l t (answer.Refused e) = row e ≡ 13
+StartsWell z l t (Ok reply.Done) = (x : ℕ) → x < z.sectors → holding z t x ≡ l.sectors x
+StartsWell z l t (Ok (reply.Opened k)) = ⊥
+StartsWell z l t (Ok (reply.Shown found page)) = ⊥
+StartsWell z l t (Ok (reply.Figures f)) = ⊥
+StartsWell z l t (Err e) = row e ≡ 13
 
 -- a read that is accepted is of a sector of the volume, and gives what the ledger says
 abbrev ReadsWell : Sizes → Ledger → ℕ → Answer → Type 0
-ReadsWell z l x answer.Done = ⊥
-ReadsWell z l x (answer.Opened k) = ⊥
-ReadsWell z l x (answer.Shown found page) = (x < z.sectors) × Agrees found page (l.sectors x)
-ReadsWell z l x (answer.Figures a b c d) = ⊥
-ReadsWell z l x (answer.Refused e) = Unit {0}
+ReadsWell z l x (Ok reply.Done) = ⊥
+ReadsWell z l x (Ok (reply.Opened k)) = ⊥
+ReadsWell z l x (Ok (reply.Shown found page)) = (x < z.sectors) × Agrees found page (l.sectors x)
+ReadsWell z l x (Ok (reply.Figures f)) = ⊥
+ReadsWell z l x (Err e) = Unit {0}
 
 -- where the ledger and the volume must agree, l being what the ledger says after the turn
 abbrev pub Meets : Sizes → Ledger → Flash → Call → Answer → Type 0
@@ -73,11 +72,11 @@ Meets z l t call.Report a = Unit {0}
 -- an open of n puts, from a chip s and a memory m to a chip t: it is refused exactly when power fails in it, when all
 -- tickets are given, or when a reclaim is due and the tally is spent
 abbrev pub OpensWell : Sizes → ℕ → Memory → Flash → Answer → Type 0
-OpensWell z n m t answer.Done = ⊥
-OpensWell z n m t (answer.Opened k) = (k ≡ m.tickets + 1) × (t.on ≡ true) × (m.tickets < most_tickets) × (n + 7 ≤ unclaimed z t)
-OpensWell z n m t (answer.Shown found page) = ⊥
-OpensWell z n m t (answer.Figures a b c d) = ⊥
-OpensWell z n m t (answer.Refused e) =
+OpensWell z n m t (Ok reply.Done) = ⊥
+OpensWell z n m t (Ok (reply.Opened k)) = (k ≡ m.tickets + 1) × (t.on ≡ true) × (m.tickets < most_tickets) × (n + 7 ≤ unclaimed z t)
+OpensWell z n m t (Ok (reply.Shown found page)) = ⊥
+OpensWell z n m t (Ok (reply.Figures f)) = ⊥
+OpensWell z n m t (Err e) =
     ((row e ≡ 13) × (t.on ≡ false))
     ⊎ (((row e ≡ 8) × (most_tickets ≤ m.tickets))
     ⊎ ((row e ≡ 12) × (unclaimed z t < n + 7) × (cleared_on z t ≡ tally_bits z.tally)))
@@ -112,11 +111,11 @@ pub data Chain (room : ℕ) (z : Sizes) : Flash → Memory → Ledger → List T
 
 -- a close that is accepted or cut, of a batch with a put to the sector x
 abbrev after_close : Ledger → ℕ → Answer → Type 0
-after_close l x answer.Done = puts_to x (puts_of l.batch) ≡ true
-after_close l x (answer.Opened k) = ⊥
-after_close l x (answer.Shown found page) = ⊥
-after_close l x (answer.Figures a b c d) = ⊥
-after_close l x (answer.Refused e) = (row e ≡ 13) × (puts_to x (puts_of l.batch) ≡ true)
+after_close l x (Ok reply.Done) = puts_to x (puts_of l.batch) ≡ true
+after_close l x (Ok (reply.Opened k)) = ⊥
+after_close l x (Ok (reply.Shown found page)) = ⊥
+after_close l x (Ok (reply.Figures f)) = ⊥
+after_close l x (Err e) = (row e ≡ 13) × (puts_to x (puts_of l.batch) ≡ true)
 
 abbrev pub Overwrites : Ledger → ℕ → Call → Answer → Type 0
 Overwrites l x call.Start a = ⊥
@@ -138,9 +137,9 @@ Recalls z turns =
     (before between after : List Turn) (shows starts : Turn) (x : Sector) (len : ℕ) (found : Bool) (page : List ℕ) →
     turns ≡ before ++ (shows ∷ (between ++ (starts ∷ after))) →
     shows.call ≡ call.Read x len →
-    shows.answer ≡ answer.Shown found page →
+    shows.answer ≡ Ok (reply.Shown found page) →
     starts.call ≡ call.Start →
-    starts.answer ≡ answer.Done →
+    starts.answer ≡ Ok reply.Done →
     Spared x.0 shows.ledger between →
     Agrees found page (holding z starts.flash x.0)
 

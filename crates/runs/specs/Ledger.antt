@@ -1,13 +1,17 @@
 -- The ledger: a small machine that is fed with calls and their answers, and says what every sector holds. It knows no
 -- image. A close that was cut counts for all of its batch or for nothing; which of the two is a choice, made once.
-use Rattle.std.specs.Prelude.{ℕ, Bool, false, cond, ◌||◌, List, [], ◌∷◌, ◌++◌, Some, None, Option, ◌==◌}
+use Rattle.std.specs.Prelude.{ℕ, Bool, false, cond, ◌||◌, List, [], ◌∷◌, ◌++◌, Some, None, Ok, Err, Option, Result, ◌==◌}
 use Rattle.holding.specs.Puts.{Put, wrote}
 use Rattle.engine.specs.declared.refusal.Refusal.{Refusal}
 use Rattle.engine.specs.Refusals.{row}
 use Rattle.runs.specs.declared.run.Call.{Call}
 use Rattle.runs.specs.declared.run.Call.TheVariants as call
-use Rattle.runs.specs.declared.run.Answer.{Answer}
-use Rattle.runs.specs.declared.run.Answer.TheVariants as answer
+use Rattle.runs.specs.declared.run.Reply.{Reply}
+use Rattle.runs.specs.declared.run.Reply.TheVariants as reply
+
+-- what a call answered: a reply, or a refusal
+abbrev pub Answer : Type 0
+Answer = Result Reply Refusal
 
 -- every sector's page, or none; and the puts of the open batch, in order
 pub record Ledger : Type 0 where
@@ -40,32 +44,32 @@ abbrev pub is_cut : Refusal → Bool
 is_cut e = row e == 13
 
 abbrev after_open : Ledger → Answer → Ledger
-after_open l answer.Done = l
-after_open l (answer.Opened k) = began l
-after_open l (answer.Shown found page) = l
-after_open l (answer.Figures a b c d) = l
-after_open l (answer.Refused e) = l
+after_open l (Ok reply.Done) = l
+after_open l (Ok (reply.Opened k)) = began l
+after_open l (Ok (reply.Shown found page)) = l
+after_open l (Ok (reply.Figures f)) = l
+after_open l (Err e) = l
 
 abbrev after_put : Ledger → Put → Answer → Ledger
-after_put l p answer.Done = joined l p
-after_put l p (answer.Opened k) = l
-after_put l p (answer.Shown found page) = l
-after_put l p (answer.Figures a b c d) = l
-after_put l p (answer.Refused e) = cond (is_cut e) (over l) l
+after_put l p (Ok reply.Done) = joined l p
+after_put l p (Ok (reply.Opened k)) = l
+after_put l p (Ok (reply.Shown found page)) = l
+after_put l p (Ok (reply.Figures f)) = l
+after_put l p (Err e) = cond (is_cut e) (over l) l
 
 abbrev after_close : Bool → Ledger → Answer → Ledger
-after_close all l answer.Done = written l
-after_close all l (answer.Opened k) = l
-after_close all l (answer.Shown found page) = l
-after_close all l (answer.Figures a b c d) = l
-after_close all l (answer.Refused e) = cond (is_cut e) (cond all (written l) (over l)) l
+after_close all l (Ok reply.Done) = written l
+after_close all l (Ok (reply.Opened k)) = l
+after_close all l (Ok (reply.Shown found page)) = l
+after_close all l (Ok (reply.Figures f)) = l
+after_close all l (Err e) = cond (is_cut e) (cond all (written l) (over l)) l
 
 abbrev after_drop : Ledger → Answer → Ledger
-after_drop l answer.Done = over l
-after_drop l (answer.Opened k) = l
-after_drop l (answer.Shown found page) = l
-after_drop l (answer.Figures a b c d) = l
-after_drop l (answer.Refused e) = cond (is_cut e) (over l) l
+after_drop l (Ok reply.Done) = over l
+after_drop l (Ok (reply.Opened k)) = l
+after_drop l (Ok (reply.Shown found page)) = l
+after_drop l (Ok (reply.Figures f)) = l
+after_drop l (Err e) = cond (is_cut e) (over l) l
 
 -- the ledger after a call and its answer; `all` is the choice for a close that was cut
 abbrev pub enter : Bool → Ledger → Call → Answer → Ledger

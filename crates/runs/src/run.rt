@@ -1,11 +1,11 @@
 // A run of many calls, with what is promised of them all.
 ghost use Rattle.std.specs.Prelude.{◌≡◌, length};
 ghost use Rattle.runs.specs.declared.run.Call.TheVariants.{Read};
-ghost use Rattle.runs.specs.Runs.{said, told, Shows, Calls};
+ghost use Rattle.runs.specs.Runs.{Calls};
 ghost use Rattle.runs.specs.Law.{Runs, Noted};
 
 use chip::Chip;
-use engine::{Engine, Refusal};
+use engine::{Engine, Refusal, Report};
 use ring::Sector;
 
 // A call, with any numbers; a ticket by its number, and a read by the length of its buffer.
@@ -20,62 +20,21 @@ pub enum Call<'a> {
     Report,
 }
 
-// What a call answered.
-#[derive(Clone, Copy)]
-pub enum Answer {
-    // It was served, and has no result.
+// What a call that was served answered.
+#[derive(Clone, Copy, PartialEq, Eq, Debug)]
+pub enum Reply {
+    // It has no result.
     Done,
     // An open: the ticket's number.
     Opened(u32),
-    // A read: whether the sector is written, and the page.
+    // A read: whether the sector is written, and its page. No Option: the page of FF hex is promised of one that is not.
     Shown(bool, [u8; 512]),
-    // A report: booked erases, unclaimed slots, written sectors, unbooked erases that are left.
-    Figures(u32, u16, u16, u32),
-    Refused(Refusal),
+    // A report.
+    Figures(Report),
 }
 
-// The answer of a call that has no result.
-fn plain(res: Result<(), Refusal>) -> Answer
-    ensures { result ≡ said res }
-{
-    match res {
-        Ok(()) => Answer::Done,
-        Err(refusal) => Answer::Refused(refusal),
-    }
-}
-
-// The answer of a report.
-fn figures(res: Result<(u32, u16, u16, u32), Refusal>) -> Answer
-    ensures { result ≡ told res }
-{
-    match res {
-        Ok((booked, unclaimed, written, left)) => {
-            Answer::Figures(booked, unclaimed, written, left)
-        }
-        Err(refusal) => Answer::Refused(refusal),
-    }
-}
-
-// A page by itself.
-fn page_of(bytes: &[u8]) -> [u8; 512]
-    requires { length bytes.now ≡ 512 }
-    ensures { result ≡ bytes.now }
-{
-    let mut page = [0; 512];
-    page.copy_from_slice(bytes);
-    page
-}
-
-// Makes a read into a buffer.
-fn read_page<C: Chip>(engine: &mut Engine<C>, sector: Sector, into: &mut [u8]) -> Answer
-    ensures shows { Shows sector.0 (C.flash engine.old.chip) engine.old.memory into.old result into.new }
-    ensures keeps { (C.flash engine.new.chip ≡ C.flash engine.old.chip) × (engine.new.memory ≡ engine.old.memory) }
-{
-    match engine.read(sector, into) {
-        Ok(found) => Answer::Shown(found, page_of(into)),
-        Err(refusal) => Answer::Refused(refusal),
-    }
-}
+// What a call answered: it was served, or it was refused.
+pub type Answer = Result<Reply, Refusal>;
 
 // Makes a read of `len` bytes, or of all the buffer if that is less.
 fn show<C: Chip>(engine: &mut Engine<C>, sector: Sector, len: usize, buffer: &mut [u8]) -> Answer
@@ -83,7 +42,11 @@ fn show<C: Chip>(engine: &mut Engine<C>, sector: Sector, len: usize, buffer: &mu
     ensures same { length buffer.new ≡ length buffer.old }
 {
     let room = len.min(buffer.len());
-    read_page(engine, sector, &mut buffer[0..room])
+    let into = &mut buffer[0..room];
+    let found = engine.read(sector, into)?;
+    let mut page = [0; 512];
+    page.copy_from_slice(into);
+    Ok(Reply::Shown(found, page))
 }
 
 // Makes one call.
@@ -92,16 +55,13 @@ fn serve<'a, C: Chip>(engine: &mut Engine<C>, call: Call<'a>, buffer: &mut [u8])
     ensures same { length buffer.new ≡ length buffer.old }
 {
     match call {
-        Call::Start => plain(engine.start()),
-        Call::Open(puts) => match engine.open(puts) {
-            Ok(number) => Answer::Opened(number),
-            Err(refusal) => Answer::Refused(refusal),
-        },
-        Call::Put(ticket, sector, page) => plain(engine.put(ticket, sector, page)),
-        Call::Close(ticket) => plain(engine.close(ticket)),
-        Call::Drop(ticket) => plain(engine.abandon(ticket)),
+        Call::Start => engine.start().and(Ok(Reply::Done)),
+        Call::Open(puts) => engine.open(puts).map(Reply::Opened),
+        Call::Put(ticket, sector, page) => engine.put(ticket, sector, page).and(Ok(Reply::Done)),
+        Call::Close(ticket) => engine.close(ticket).and(Ok(Reply::Done)),
+        Call::Drop(ticket) => engine.abandon(ticket).and(Ok(Reply::Done)),
         Call::Read(sector, len) => show(engine, sector, len, buffer),
-        Call::Report => figures(engine.report()),
+        Call::Report => engine.report().map(Reply::Figures),
     }
 }
 
@@ -121,8 +81,9 @@ pub fn run_calls<'a, C: Chip>(
 {
     engine.format(sectors, tally, name)?;
     let count = calls.len().min(answers.len());
-    for k in 0..count {
-        let answer = serve(engine, calls[k], buffer);
+    // Each answer is written by its index: of what is written through a zip with `iter_mut`, a proof knows nothing.
+    for (k, call) in calls[..count].iter().enumerate() {
+        let answer = serve(engine, *call, buffer);
         answers[k] = answer;
     }
     Ok(count)

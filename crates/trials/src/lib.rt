@@ -65,20 +65,19 @@ pub fn sector_of(batch: u8, put: u8) -> u16 {
     u16::from(sector)
 }
 
-// The byte that its page is filled with: another one for each put, and never 0.
+// The byte that its page is filled with: another one for each put.
 pub fn byte_of(batch: u8, put: u8) -> u8 {
     batch % 15 * 16 + put % 15 + 1
 }
 
-// What the sectors hold: the byte of the page, or 0 for one that is not written.
-pub type Ledger = [u8; 7];
+// What the sectors hold: the byte of the page, or none for one that is not written.
+pub type Ledger = [Option<u8>; 7];
 
 // Notes what a batch holds once it is closed.
-pub fn note_batch(ledger: &mut [u8], batch: u8, puts: u8) {
+pub fn note_batch(ledger: &mut Ledger, batch: u8, puts: u8) {
     for put in 0..puts {
-        let at = usize::from(sector_of(batch, put));
-        if at < ledger.len() {
-            ledger[at] = byte_of(batch, put);
+        if let Some(held) = ledger.get_mut(usize::from(sector_of(batch, put))) {
+            *held = Some(byte_of(batch, put));
         }
     }
 }

@@ -12,7 +12,7 @@ mod ticket;
 pub use self::ticket::Ticket;
 use chip::Chip;
 use engine::Engine;
-pub use engine::{Numbers, Refusal};
+pub use engine::{Numbers, Refusal, Report};
 use ring::Sector;
 
 // A volume on a chip.
@@ -86,8 +86,8 @@ impl<C: Chip> Volume<C> {
         self.engine.read(sector, into)
     }
 
-    // Booked erases, unclaimed slots, written sectors, and unbooked erases that are left.
-    pub fn report(&mut self) -> Result<(u32, u16, u16, u32), Refusal>
+    // Tells how a started volume stands.
+    pub fn report(&mut self) -> Result<Report, Refusal>
         ensures reports { Reports (C.flash self.old.engine.chip) self.old.engine.memory result }
         ensures keeps { (C.flash self.new.engine.chip ≡ C.flash self.old.engine.chip) × (self.new.engine.memory ≡ self.old.engine.memory) }
     {

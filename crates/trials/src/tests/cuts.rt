@@ -3,7 +3,7 @@ use super::running::{Progress, run_first, run_out, run_whole};
 use crate::BLOCKS;
 use bench_chip::{Bench, Plan};
 use buffered_chip::Buffered;
-use chip::BLOCK;
+use chip::{BLOCK, Chip};
 use std::process::Abort;
 use std::test::Fail;
 use volume::Volume;
@@ -13,13 +13,18 @@ pub const FIRST: u32 = 9;
 
 pub const END: u32 = 390;
 
+// Runs the script on a chip that cuts a step, if the script comes to it.
+fn cut_at<C: Chip + Drop>(rt: &impl Abort, chip: C, step: u32) -> Result<(), Fail> {
+    let mut progress = Progress::new();
+    run_whole(rt, &mut Volume::new(chip), &mut progress)?;
+    assert_eq!(rt; progress.cuts, u32::from(step < END), "{}", step);
+    Ok(())
+}
+
 // Cuts the script at each step on the bench chip.
 fn cut_bench(rt: &impl Abort, image: &mut [u8], mask: u8) -> Result<(), Fail> {
     for step in FIRST..=END {
-        let mut progress = Progress::new();
-        let mut volume = Volume::new(Bench::new(image, 1, Plan { step, mask }));
-        run_whole(rt, &mut volume, &mut progress)?;
-        assert_eq!(rt; progress.cuts, u32::from(step < END), "{}", step);
+        cut_at(rt, Bench::new(image, 1, Plan { step, mask }), step)?;
     }
     Ok(())
 }
@@ -27,11 +32,8 @@ fn cut_bench(rt: &impl Abort, image: &mut [u8], mask: u8) -> Result<(), Fail> {
 // Cuts it on the buffered chip, where a cut step finishes `done` bytes.
 fn cut_buffered(rt: &impl Abort, image: &mut [u8], done: usize) -> Result<(), Fail> {
     for step in FIRST..=END {
-        let mut progress = Progress::new();
         let plan = buffered_chip::Plan { step, done };
-        let mut volume = Volume::new(Buffered::new(image, 1, plan));
-        run_whole(rt, &mut volume, &mut progress)?;
-        assert_eq!(rt; progress.cuts, u32::from(step < END), "{}", step);
+        cut_at(rt, Buffered::new(image, 1, plan), step)?;
     }
     Ok(())
 }

@@ -1,15 +1,19 @@
 // A run of calls, many of them to be refused.
-use super::answers::{DONE, FIGURES, OPENED, SHOWN, Told, same, tell};
+use super::WHOLE;
 use crate::{BLOCKS, SECTORS};
 use bench_chip::{Bench, Plan};
-use chip::BLOCK;
-use engine::{Engine, Refusal};
+use chip::{BLOCK, Home};
+use engine::{Engine, Refusal, Report};
 use ring::Sector;
-use runs::{Answer, Call, run_calls};
+use runs::{Answer, Call, Reply, run_calls};
 use std::process::Abort;
 use std::test::Fail;
 
-const WHOLE: Plan = Plan { step: 0, mask: 0 };
+// The answer of a call that was served and has no result.
+const DONE: Answer = Ok(Reply::Done);
+
+// The answer of a read of a sector that is not written.
+const UNWRITTEN: Answer = Ok(Reply::Shown(false, [0xFF; 512]));
 
 // Calls before any batch.
 fn first_calls<'a>(page: &'a [u8], short: &'a [u8]) -> [Call<'a>; 12] {
@@ -29,19 +33,24 @@ fn first_calls<'a>(page: &'a [u8], short: &'a [u8]) -> [Call<'a>; 12] {
     ]
 }
 
-const FIRST: [Told; 12] = [
-    [1, 0, 0, 0, 0],
-    [1, 0, 0, 0, 0],
-    [DONE, 0, 0, 0, 0],
-    [FIGURES, 0, 35, 0, 16384],
-    [2, 0, 0, 0, 0],
-    [2, 0, 0, 0, 0],
-    [4, 0, 0, 0, 0],
-    [4, 0, 0, 0, 0],
-    [5, 0, 0, 0, 0],
-    [5, 0, 0, 0, 0],
-    [6, 0, 0, 0, 0],
-    [SHOWN, 0, 255, 255, 0],
+const FIRST: [Answer; 12] = [
+    Err(Refusal::NotStarted),
+    Err(Refusal::NotStarted),
+    DONE,
+    Ok(Reply::Figures(Report {
+        booked: 0,
+        unclaimed: 35,
+        written: 0,
+        left: 16384,
+    })),
+    Err(Refusal::OtherTicket),
+    Err(Refusal::OtherTicket),
+    Err(Refusal::Count),
+    Err(Refusal::Count),
+    Err(Refusal::Length),
+    Err(Refusal::Length),
+    Err(Refusal::NoSector),
+    UNWRITTEN,
 ];
 
 // A batch of two puts.
@@ -66,23 +75,23 @@ fn batch_calls<'a>(page: &'a [u8], short: &'a [u8]) -> [Call<'a>; 16] {
     ]
 }
 
-const BATCH: [Told; 16] = [
-    [DONE, 0, 0, 0, 0],
-    [OPENED, 1, 0, 0, 0],
-    [3, 0, 0, 0, 0],
-    [5, 0, 0, 0, 0],
-    [6, 0, 0, 0, 0],
-    [2, 0, 0, 0, 0],
-    [DONE, 0, 0, 0, 0],
-    [SHOWN, 0, 255, 255, 0],
-    [DONE, 0, 0, 0, 0],
-    [5, 0, 0, 0, 0],
-    [6, 0, 0, 0, 0],
-    [7, 0, 0, 0, 0],
-    [2, 0, 0, 0, 0],
-    [DONE, 0, 0, 0, 0],
-    [2, 0, 0, 0, 0],
-    [SHOWN, 1, 7, 7, 0],
+const BATCH: [Answer; 16] = [
+    DONE,
+    Ok(Reply::Opened(1)),
+    Err(Refusal::BatchOpen),
+    Err(Refusal::Length),
+    Err(Refusal::NoSector),
+    Err(Refusal::OtherTicket),
+    DONE,
+    UNWRITTEN,
+    DONE,
+    Err(Refusal::Length),
+    Err(Refusal::NoSector),
+    Err(Refusal::BatchFull),
+    Err(Refusal::OtherTicket),
+    DONE,
+    Err(Refusal::OtherTicket),
+    Ok(Reply::Shown(true, [7; 512])),
 ];
 
 // Tickets one after another, of batches that are dropped or left.
@@ -105,21 +114,26 @@ fn ticket_calls<'a>(page: &'a [u8]) -> [Call<'a>; 14] {
     ]
 }
 
-const TICKETS: [Told; 14] = [
-    [DONE, 0, 0, 0, 0],
-    [OPENED, 1, 0, 0, 0],
-    [DONE, 0, 0, 0, 0],
-    [OPENED, 2, 0, 0, 0],
-    [DONE, 0, 0, 0, 0],
-    [2, 0, 0, 0, 0],
-    [DONE, 0, 0, 0, 0],
-    [SHOWN, 0, 255, 255, 0],
-    [OPENED, 3, 0, 0, 0],
-    [DONE, 0, 0, 0, 0],
-    [DONE, 0, 0, 0, 0],
-    [2, 0, 0, 0, 0],
-    [FIGURES, 0, 33, 0, 16384],
-    [OPENED, 4, 0, 0, 0],
+const TICKETS: [Answer; 14] = [
+    DONE,
+    Ok(Reply::Opened(1)),
+    DONE,
+    Ok(Reply::Opened(2)),
+    DONE,
+    Err(Refusal::OtherTicket),
+    DONE,
+    UNWRITTEN,
+    Ok(Reply::Opened(3)),
+    DONE,
+    DONE,
+    Err(Refusal::OtherTicket),
+    Ok(Reply::Figures(Report {
+        booked: 0,
+        unclaimed: 33,
+        written: 0,
+        left: 16384,
+    })),
+    Ok(Reply::Opened(4)),
 ];
 
 // A batch whose second put is cut.
@@ -142,20 +156,20 @@ fn cut_calls<'a>(page: &'a [u8]) -> [Call<'a>; 13] {
 }
 
 // The cut is told by its home: on the chip 1, the first block of the ring.
-const CUT: [Told; 13] = [
-    [DONE, 0, 0, 0, 0],
-    [OPENED, 1, 0, 0, 0],
-    [DONE, 0, 0, 0, 0],
-    [13, 1, 2, 0, 0],
-    [1, 0, 0, 0, 0],
-    [1, 0, 0, 0, 0],
-    [1, 0, 0, 0, 0],
-    [1, 0, 0, 0, 0],
-    [1, 0, 0, 0, 0],
-    [DONE, 0, 0, 0, 0],
-    [2, 0, 0, 0, 0],
-    [SHOWN, 0, 255, 255, 0],
-    [OPENED, 2, 0, 0, 0],
+const CUT: [Answer; 13] = [
+    DONE,
+    Ok(Reply::Opened(1)),
+    DONE,
+    Err(Refusal::Cut(Home { name: 1, block: 2 })),
+    Err(Refusal::NotStarted),
+    Err(Refusal::NotStarted),
+    Err(Refusal::NotStarted),
+    Err(Refusal::NotStarted),
+    Err(Refusal::NotStarted),
+    DONE,
+    Err(Refusal::OtherTicket),
+    UNWRITTEN,
+    Ok(Reply::Opened(2)),
 ];
 
 // Runs calls on a volume that is formatted, and compares the answers.
@@ -164,9 +178,9 @@ fn compare<'a>(
     image: &mut [u8],
     plan: Plan,
     calls: &[Call<'a>],
-    wanted: &[Told],
+    wanted: &[Answer],
 ) -> Result<(), Fail> {
-    let mut answers = [Answer::Done; 16];
+    let mut answers = [DONE; 16];
     let mut buffer = [0; 600];
     let mut engine = Engine::new(Bench::new(image, 1, plan));
     let count = run_calls(
@@ -178,10 +192,9 @@ fn compare<'a>(
         &mut answers,
         &mut buffer,
     )?;
-    assert!(rt; count == wanted.len() && count <= 16);
-    for i in 0..count {
-        let told = tell(answers[i]);
-        assert!(rt; same(&told, &wanted[i]), "call {i}: {}", told[0]);
+    assert_eq!(rt; count, wanted.len());
+    for (i, (answer, wanted)) in answers.iter().zip(wanted).enumerate() {
+        assert_eq!(rt; answer, wanted, "call {i}");
     }
     Ok(())
 }
@@ -201,13 +214,13 @@ fn run_keeps_the_law(rt: HostRuntime) -> Result<(), Fail> {
 
 // Runs calls on a volume with a sector too many: none is made.
 fn refuse<'a>(rt: &impl Abort, image: &mut [u8], calls: &[Call<'a>]) {
-    let mut answers = [Answer::Opened(9); 16];
+    let before = [Ok(Reply::Opened(9)); 16];
+    let mut answers = before;
     let mut buffer = [0; 600];
     let mut engine = Engine::new(Bench::new(image, 1, WHOLE));
     let answer = run_calls(&mut engine, 8, 1, b"", calls, &mut answers, &mut buffer);
     assert_eq!(rt; answer, Err(Refusal::Sizes));
-    let told = tell(answers[0]);
-    assert!(rt; same(&told, &[OPENED, 9, 0, 0, 0]), "no call is made");
+    assert_eq!(rt; answers, before, "no call is made");
 }
 
 #[test]

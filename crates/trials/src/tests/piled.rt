@@ -1,5 +1,5 @@
 // The script over different chips.
-use super::answers::{FIGURES, Told, same, tell};
+use super::WHOLE;
 use super::cuts::{END, FIRST};
 use super::running::{Progress, run_whole};
 use crate::{BATCHES, End, SECTORS, batch_at, byte_of, sector_of};
@@ -9,29 +9,24 @@ use chip::{BLOCK, Chip};
 use engine::Engine;
 use piles::pile;
 use ring::Sector;
-use runs::{Answer, Call, run_calls};
+use runs::{Answer, Call, Reply, run_calls};
 use std::process::Abort;
 use std::test::Fail;
 use volume::Volume;
-
-const WHOLE: Plan = Plan { step: 0, mask: 0 };
 
 const BUFFERED: buffered_chip::Plan = buffered_chip::Plan { step: 0, done: 0 };
 
 // Fills 256 pages, each with the byte of its number.
 fn fill_pages(pages: &mut [u8]) {
-    for i in 0..pages.len() {
-        pages[i] = (i / 512 & 0xFF) as u8;
+    for (page, byte) in pages.chunks_exact_mut(512).zip(0..=255) {
+        page.fill(byte);
     }
 }
 
 // The page of a byte.
 fn page_of<'a>(pages: &'a [u8], byte: u8) -> &'a [u8] {
     let at = 512 * usize::from(byte);
-    if pages.len() < at + 512 {
-        return pages;
-    }
-    &pages[at..at + 512]
+    pages.get(at..at + 512).unwrap_or(pages)
 }
 
 // The calls of a batch, under its ticket; then reads of all sectors, and a report.
@@ -56,41 +51,35 @@ fn list_batch<'a>(calls: &mut Vec<Call<'a>>, pages: &'a [u8], at: u8) -> Result<
 }
 
 // What the calls answer on a volume.
-fn tell_all<'a, C: Chip>(
+fn answer_all<'a, C: Chip>(
     rt: &impl Abort,
     engine: &mut Engine<C>,
     calls: &[Call<'a>],
-) -> Result<[Told; 256], Fail> {
-    let mut answers = [Answer::Done; 256];
+) -> Result<[Answer; 256], Fail> {
+    let mut answers = [Ok(Reply::Done); 256];
     let mut buffer = [0; 512];
     let count = run_calls(engine, SECTORS, 1, b"", calls, &mut answers, &mut buffer)?;
-    assert!(rt; count == calls.len(), "all calls have room");
-    let mut told = [[0; 5]; 256];
-    for i in 0..256 {
-        told[i] = tell(answers[i]);
-    }
-    Ok(told)
+    assert_eq!(rt; count, calls.len(), "all calls have room");
+    Ok(answers)
 }
 
 // Compares all answers.
-fn compare(rt: &impl Abort, one: &[Told], other: &[Told]) -> Result<(), Fail> {
-    assert!(rt; one.len() == other.len());
-    for i in 0..one.len() {
-        assert!(rt; same(&one[i], &other[i]), "{}", i);
-    }
-    Ok(())
+fn compare(rt: &impl Abort, one: &[Answer], other: &[Answer]) {
+    assert_eq!(rt; one.len(), other.len());
+    let differ = one.iter().zip(other).position(|(a, b)| a != b);
+    assert_eq!(rt; differ, None);
 }
 
 // That none of the answers is a refusal, and that eight blocks were reclaimed.
-fn judge(rt: &impl Abort, told: &[Told]) {
+fn judge(rt: &impl Abort, answers: &[Answer]) -> Result<(), Fail> {
     let mut booked = 0;
-    for row in told.iter() {
-        assert!(rt; row[0] == 0 || row[0] >= 100, "a refusal");
-        if row[0] == FIGURES {
-            booked = row[1];
+    for answer in answers {
+        if let Reply::Figures(report) = (*answer)? {
+            booked = report.booked;
         }
     }
     assert_eq!(rt; booked, 8, "booked erases");
+    Ok(())
 }
 
 // Lists the calls of the whole script.
@@ -108,12 +97,12 @@ fn run_alone<'a>(
     calls: &[Call<'a>],
     bench: &mut [u8],
     buffered: &mut [u8],
-) -> Result<[Told; 256], Fail> {
+) -> Result<[Answer; 256], Fail> {
     let mut engine = Engine::new(Bench::new(bench, 1, WHOLE));
-    let told = tell_all(rt, &mut engine, calls)?;
+    let answers = answer_all(rt, &mut engine, calls)?;
     let mut other = Engine::new(Buffered::new(buffered, 1, BUFFERED));
-    compare(rt, &tell_all(rt, &mut other, calls)?, &told)?;
-    Ok(told)
+    compare(rt, &answer_all(rt, &mut other, calls)?, &answers);
+    Ok(answers)
 }
 
 // Runs the calls on a pile of two chips.
@@ -122,11 +111,11 @@ fn run_piled<'a>(
     calls: &[Call<'a>],
     front: &mut [u8],
     back: &mut [u8],
-) -> Result<[Told; 256], Fail> {
+) -> Result<[Answer; 256], Fail> {
     let one = Buffered::new(front, 1, BUFFERED);
     let other = Bench::new(back, 2, WHOLE);
     let mut engine = Engine::new(pile(one, other, 7));
-    tell_all(rt, &mut engine, calls)
+    answer_all(rt, &mut engine, calls)
 }
 
 // Compares the image on a chip alone with that on a pile.
@@ -156,20 +145,20 @@ fn same_answers(rt: HostRuntime) -> Result<(), Fail> {
     fill_pages(pages.as_mut_slice());
     let mut calls = Vec::new(rt.alloc());
     list_calls(&mut calls, pages.as_slice())?;
-    let told = run_alone(
+    let alone = run_alone(
         &rt,
         calls.as_slice(),
         bench.as_mut_slice(),
         buffered.as_mut_slice(),
     )?;
-    judge(&rt, &told);
+    judge(&rt, &alone)?;
     let piled = run_piled(
         &rt,
         calls.as_slice(),
         front.as_mut_slice(),
         back.as_mut_slice(),
     )?;
-    compare(&rt, &piled, &told)?;
+    compare(&rt, &piled, &alone);
     assert!(rt;
         bench.as_slice() == buffered.as_slice(),
         "the image of the buffered chip"

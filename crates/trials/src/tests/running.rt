@@ -21,24 +21,46 @@ impl Progress {
     pub fn new() -> Progress {
         Progress {
             batch: 0,
-            ledger: [0; 7],
-            after: [0; 7],
+            ledger: [None; 7],
+            after: [None; 7],
             cuts: 0,
         }
     }
 }
 
-// Whether a call was cut; no other refusal is expected.
-fn is_cut(answer: Result<(), Refusal>) -> Result<bool, Fail> {
-    match answer {
-        Ok(()) => Ok(false),
-        Err(Refusal::Cut(_)) => Ok(true),
-        Err(refusal) => Err(Fail::new(format_args!("refused: {refusal:?}"))),
+// Why the script stops: power went, or what was seen is wrong.
+enum Stop {
+    Cut,
+    Wrong(Fail),
+}
+
+impl From<Fail> for Stop {
+    fn from(fail: Fail) -> Stop {
+        Stop::Wrong(fail)
     }
 }
 
-// The byte that a sector's page is filled with, or 0 if it is not written.
-fn look<C: Chip>(rt: &impl Abort, volume: &mut Volume<C>, sector: u16) -> Result<u8, Fail> {
+// No refusal but a cut is expected.
+impl From<Refusal> for Stop {
+    fn from(refusal: Refusal) -> Stop {
+        match refusal {
+            Refusal::Cut(_) => Stop::Cut,
+            _ => Stop::Wrong(Fail::new(format_args!("refused: {refusal:?}"))),
+        }
+    }
+}
+
+// Whether a part of the script was cut.
+fn is_cut(ran: Result<(), Stop>) -> Result<bool, Fail> {
+    match ran {
+        Ok(()) => Ok(false),
+        Err(Stop::Cut) => Ok(true),
+        Err(Stop::Wrong(fail)) => Err(fail),
+    }
+}
+
+// The byte that a sector's page is filled with, if it is written.
+fn look<C: Chip>(rt: &impl Abort, volume: &mut Volume<C>, sector: u16) -> Result<Option<u8>, Fail> {
     let mut page = [0; 512];
     let found = volume.read(Sector(sector), &mut page)?;
     assert!(rt;
@@ -46,46 +68,27 @@ fn look<C: Chip>(rt: &impl Abort, volume: &mut Volume<C>, sector: u16) -> Result
         "one byte fills the page"
     );
     if found {
-        return Ok(page[0]);
+        return Ok(Some(page[0]));
     }
     assert!(rt; page[0] == 0xFF, "an unwritten page");
-    Ok(0)
+    Ok(None)
 }
 
 // What all sectors hold.
 fn survey<C: Chip>(rt: &impl Abort, volume: &mut Volume<C>) -> Result<Ledger, Fail> {
-    let mut found = [0; 7];
-    for x in 0..SECTORS {
-        let byte = look(rt, volume, x)?;
-        if x < 7 {
-            found[usize::from(x)] = byte;
-        }
+    let mut found = [None; 7];
+    for (held, sector) in found.iter_mut().zip(0..SECTORS) {
+        *held = look(rt, volume, sector)?;
     }
     Ok(found)
 }
 
-// How many sectors a ledger has as written.
-fn count_written(ledger: &[u8]) -> u16 {
-    let mut count: u16 = 0;
-    for byte in ledger.iter() {
-        if *byte != 0 {
-            count = count.saturating_add(1);
-        }
-    }
-    count
-}
-
 // Compares the report with what was read; all erases of the tally are booked or left.
-fn weigh<C: Chip>(rt: &impl Abort, volume: &mut Volume<C>, written: u16) -> Result<(), Fail> {
-    let (booked, _, found, left) = volume.report()?;
-    assert_eq!(rt; found, written, "written sectors");
-    assert_eq!(rt; booked.saturating_add(left), 16384, "erases");
+fn weigh<C: Chip>(rt: &impl Abort, volume: &mut Volume<C>, written: usize) -> Result<(), Fail> {
+    let report = volume.report()?;
+    assert_eq!(rt; usize::from(report.written), written, "written sectors");
+    assert_eq!(rt; report.booked.saturating_add(report.left), 16384, "erases");
     Ok(())
-}
-
-// Whether two ledgers are the same.
-fn same(one: &[u8], other: &[u8]) -> bool {
-    one == other
 }
 
 // Compares what the sectors hold. A close that was cut counts for its whole batch or not at all.
@@ -95,12 +98,12 @@ fn settle<C: Chip>(
     progress: &mut Progress,
 ) -> Result<(), Fail> {
     let found = survey(rt, volume)?;
-    weigh(rt, volume, count_written(&found))?;
-    if same(&found, &progress.after) {
+    weigh(rt, volume, found.iter().flatten().count())?;
+    if found == progress.after {
         progress.ledger = found;
     }
     progress.after = progress.ledger;
-    assert!(rt; same(&found, &progress.ledger), "what the sectors hold");
+    assert!(rt; found == progress.ledger, "what the sectors hold");
     Ok(())
 }
 
@@ -118,19 +121,17 @@ fn put_all<C: Chip>(
     Ok(())
 }
 
-// Makes the puts of a batch, of which no read sees anything yet; tells whether power went.
+// Makes the puts of a batch, of which no read sees anything yet.
 fn fill<C: Chip>(
     rt: &impl Abort,
     volume: &mut Volume<C>,
     ticket: &Ticket,
     puts: u8,
     progress: &mut Progress,
-) -> Result<bool, Fail> {
-    let cut = is_cut(put_all(volume, ticket, progress.batch, puts))?;
-    if !cut {
-        settle(rt, volume, progress)?;
-    }
-    Ok(cut)
+) -> Result<(), Stop> {
+    put_all(volume, ticket, progress.batch, puts)?;
+    settle(rt, volume, progress)?;
+    Ok(())
 }
 
 // Closes a batch.
@@ -139,13 +140,11 @@ fn close<C: Chip>(
     ticket: Ticket,
     puts: u8,
     progress: &mut Progress,
-) -> Result<bool, Fail> {
+) -> Result<(), Stop> {
     note_batch(&mut progress.after, progress.batch, puts);
-    let cut = is_cut(volume.close(ticket))?;
-    if !cut {
-        progress.ledger = progress.after;
-    }
-    Ok(cut)
+    volume.close(ticket)?;
+    progress.ledger = progress.after;
+    Ok(())
 }
 
 // Starts a volume while a batch is open; its ticket is of no use then.
@@ -153,101 +152,94 @@ fn start_within<C: Chip>(
     rt: &impl Abort,
     volume: &mut Volume<C>,
     ticket: Ticket,
-) -> Result<bool, Fail> {
+) -> Result<(), Stop> {
     let started = volume.start();
-    let closed = volume.close(ticket);
-    let cut = is_cut(started)?;
-    let refusal = if cut {
-        Refusal::NotStarted
-    } else {
-        Refusal::OtherTicket
+    let refusal = match started {
+        Ok(()) => Refusal::OtherTicket,
+        Err(_) => Refusal::NotStarted,
     };
-    assert_eq!(rt; closed, Err(refusal));
-    Ok(cut)
+    assert_eq!(rt; volume.close(ticket), Err(refusal));
+    started?;
+    Ok(())
 }
 
-// Ends a batch of so many puts; tells whether power went.
+// Ends a batch of so many puts.
 fn end_batch<C: Chip>(
     rt: &impl Abort,
     volume: &mut Volume<C>,
     ticket: Ticket,
     batch: Batch,
     progress: &mut Progress,
-) -> Result<bool, Fail> {
+) -> Result<(), Stop> {
     match batch.end {
         End::Close => close(volume, ticket, batch.puts, progress),
-        End::Drop => is_cut(volume.abandon(ticket)),
+        End::Drop => {
+            volume.abandon(ticket)?;
+            Ok(())
+        }
         End::Start => start_within(rt, volume, ticket),
     }
 }
 
-// Fills an open batch and ends it; tells whether power went.
+// Fills an open batch and ends it.
 fn serve_batch<C: Chip>(
     rt: &impl Abort,
     volume: &mut Volume<C>,
     ticket: Ticket,
     batch: Batch,
     progress: &mut Progress,
-) -> Result<bool, Fail> {
+) -> Result<(), Stop> {
     match fill(rt, volume, &ticket, batch.puts, progress) {
-        Ok(false) => end_batch(rt, volume, ticket, batch, progress),
-        Ok(true) => {
+        Ok(()) => end_batch(rt, volume, ticket, batch, progress),
+        Err(Stop::Cut) => {
             let dropped = volume.abandon(ticket);
             assert_eq!(rt; dropped, Err(Refusal::NotStarted), "off, until a start");
-            Ok(true)
+            Err(Stop::Cut)
         }
-        Err(fail) => {
+        Err(Stop::Wrong(fail)) => {
             let _ = volume.abandon(ticket);
-            Err(fail)
+            Err(Stop::Wrong(fail))
         }
     }
 }
 
-// Opens a batch and serves it; tells whether power went.
+// Opens a batch and serves it.
 fn run_batch<C: Chip>(
     rt: &impl Abort,
     volume: &mut Volume<C>,
     progress: &mut Progress,
-) -> Result<bool, Fail> {
+) -> Result<(), Stop> {
     let batch = batch_at(progress.batch);
-    match volume.open(batch.limit) {
-        Ok(ticket) => serve_batch(rt, volume, ticket, batch, progress),
-        Err(refusal) => is_cut(Err(refusal)),
-    }
+    let ticket = volume.open(batch.limit)?;
+    serve_batch(rt, volume, ticket, batch, progress)
 }
 
-// Runs the batches that are left; tells whether power went.
+// Runs the batches that are left.
 fn run_batches<C: Chip>(
     rt: &impl Abort,
     volume: &mut Volume<C>,
     progress: &mut Progress,
-) -> Result<bool, Fail> {
+) -> Result<(), Stop> {
     for batch in progress.batch..BATCHES {
         progress.batch = batch;
-        let cut = run_batch(rt, volume, progress)?;
+        let ran = run_batch(rt, volume, progress);
         progress.batch = batch.saturating_add(1);
-        if cut {
-            return Ok(true);
-        }
+        ran?;
     }
-    Ok(false)
+    Ok(())
 }
 
-// Starts a volume, and runs the script on it from where it was left; tells whether power went.
+// Starts a volume, and runs the script on it from where it was left.
 fn run_on<C: Chip>(
     rt: &impl Abort,
     volume: &mut Volume<C>,
     progress: &mut Progress,
-) -> Result<bool, Fail> {
-    if is_cut(volume.start())? {
-        return Ok(true);
-    }
+) -> Result<(), Stop> {
+    volume.start()?;
     settle(rt, volume, progress)?;
-    if run_batches(rt, volume, progress)? {
-        return Ok(true);
-    }
+    run_batches(rt, volume, progress)?;
     settle(rt, volume, progress)?;
-    Ok(false)
+    Ok(())
 }
 
 // The same over at most one cut, and once more at the end.
@@ -256,16 +248,16 @@ pub fn run_out<C: Chip>(
     volume: &mut Volume<C>,
     progress: &mut Progress,
 ) -> Result<(), Fail> {
-    if run_on(rt, volume, progress)? {
+    if is_cut(run_on(rt, volume, progress))? {
         progress.cuts = progress.cuts.saturating_add(1);
         assert!(rt;
             matches!(volume.report(), Err(Refusal::NotStarted)),
             "off, until a start"
         );
-        let cut = run_on(rt, volume, progress)?;
+        let cut = is_cut(run_on(rt, volume, progress))?;
         assert!(rt; !cut, "a second cut");
     }
-    let cut = run_on(rt, volume, progress)?;
+    let cut = is_cut(run_on(rt, volume, progress))?;
     assert!(rt; !cut, "a cut in the last start");
     Ok(())
 }
@@ -277,7 +269,7 @@ pub fn run_first<C: Chip>(
     progress: &mut Progress,
 ) -> Result<(), Fail> {
     volume.format(SECTORS, 1, b"")?;
-    let cut = run_on(rt, volume, progress)?;
+    let cut = is_cut(run_on(rt, volume, progress))?;
     assert!(rt; cut, "no cut");
     Ok(())
 }

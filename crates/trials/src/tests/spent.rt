@@ -1,21 +1,18 @@
 // A tally that is spent, or soon will be.
+use super::WHOLE;
 use crate::{BLOCKS, SECTORS};
 use bench_chip::{Bench, Plan};
 use chip::{BLOCK, Chip};
-use engine::{Engine, Refusal};
+use engine::{Engine, Refusal, Report};
 use ring::Sector;
 use std::process::Abort;
 use std::test::Fail;
-
-const WHOLE: Plan = Plan { step: 0, mask: 0 };
 
 // Formats an image, and clears its tally but for the last byte.
 fn spend(rt: &impl Abort, image: &mut [u8], last: u8) -> Result<(), Fail> {
     Engine::new(Bench::new(image, 1, WHOLE)).format(SECTORS, 1, b"")?;
     assert!(rt; image.len() == BLOCKS * BLOCK);
-    for at in BLOCK..2 * BLOCK {
-        image[at] = 0;
-    }
+    image[BLOCK..2 * BLOCK].fill(0);
     image[2 * BLOCK - 1] = last;
     Ok(())
 }
@@ -36,15 +33,13 @@ fn weigh<C: Chip>(
     booked: u32,
     unclaimed: u16,
 ) -> Result<(), Fail> {
-    let found = engine.report()?;
-    assert_eq!(rt; found.0, booked, "booked erases");
-    assert_eq!(rt; found.1, unclaimed, "unclaimed slots");
-    assert_eq!(rt; found.2, SECTORS, "written sectors");
-    assert_eq!(rt;
-        found.3,
-        16384_u32.saturating_sub(booked),
-        "erases that are left"
-    );
+    let wanted = Report {
+        booked,
+        unclaimed,
+        written: SECTORS,
+        left: 16384_u32.saturating_sub(booked),
+    };
+    assert_eq!(rt; engine.report()?, wanted);
     Ok(())
 }
 
@@ -99,8 +94,7 @@ fn cut_last(rt: &impl Abort, image: &mut [u8], step: u32, mask: u8) -> Result<bo
     if cut && write_on(&mut engine)? {
         return Err(Fail::new("a second cut"));
     }
-    let (booked, _, _, _) = engine.report()?;
-    assert_eq!(rt; booked, 16384);
+    assert_eq!(rt; engine.report()?.booked, 16384);
     Ok(cut)
 }
 

@@ -26,8 +26,9 @@ returns-in_err-log g c =
 
 pub returns-in-Made : goal.returns-in-Made
 returns-in-Made g c =
-    open_done c.in_ok-started.ensures c.in_ok-check_open.ensures _ _ c.in-Made.is c.in_ok-log.ensures.rooms
+    rw (c.open.ensures.ticket, c.open.ensures.opened)
+    (open_done c.in_ok-started.ensures c.in_ok-check_open.ensures _ _ c.in-Made.is c.in_ok-log.ensures.rooms)
 
 pub returns-in-Spent : goal.returns-in-Spent
 returns-in-Spent g c =
-    open_spent c.in_ok-started.ensures c.in_ok-check_open.ensures _ _ c.in-Spent.is c.in_ok-log.ensures.rooms
+    rw c.idle.ensures (open_spent c.in_ok-started.ensures c.in_ok-check_open.ensures _ _ c.in-Spent.is c.in_ok-log.ensures.rooms)

@@ -17,17 +17,17 @@ returns-in_err-batch g c =
     let other = c.in_err-batch.ensures in
     rw (out.1, out.2) (calls.other {e = c.in_err-batch.field-0.0} other.0 c.in_ok-started.ensures other.1)
 
-pub returns-in_err-check_put : goal.returns-in_err-check_put
-returns-in_err-check_put g c =
-    let out = err_from_is_err_and c.from_residual-in_err-check_put.result c.from_residual-in_err-check_put.ensures.1 in
-    rw (out.1, out.2) (put_refused {e = c.in_err-check_put.field-0.0} c.in_ok-started.ensures c.in_ok-batch.ensures c.in_err-check_put.ensures)
+pub returns-in_err-whole : goal.returns-in_err-whole
+returns-in_err-whole g c =
+    let out = err_from_is_err_and c.from_residual-in_err-whole.result c.from_residual-in_err-whole.ensures.1 in
+    rw (out.1, out.2) (put_refused {e = c.in_err-whole.field-0.0} c.in_ok-started.ensures c.in_ok-batch.ensures c.in_err-whole.ensures)
 
 pub returns-in_err-put_slot : goal.returns-in_err-put_slot
 returns-in_err-put_slot g c =
     let out = err_from_is_err_and c.from_residual-in_err-put_slot.result c.from_residual-in_err-put_slot.ensures.1 in
     rw (out.1, out.2)
-    (put_cut (puttable c.in_ok-started.ensures c.in_ok-batch.ensures (search rules) c.in_ok-check_put.ensures) c.in_err-put_slot.ensures)
+    (put_cut (puttable c.in_ok-started.ensures c.in_ok-batch.ensures (search rules) c.in_ok-whole.ensures.1) (rw c.in_ok-whole.ensures.0 at c.in_err-put_slot.ensures))
 
 pub returns : goal.returns
 returns g c =
-    calls.done (puttable c.in_ok-started.ensures c.in_ok-batch.ensures (search rules) c.in_ok-check_put.ensures) c.in_ok-put_slot.ensures
+    calls.done (puttable c.in_ok-started.ensures c.in_ok-batch.ensures (search rules) c.in_ok-whole.ensures.1) (rw c.in_ok-whole.ensures.0 at c.in_ok-put_slot.ensures)

@@ -4,9 +4,6 @@ use Rattle.image.proofs.Bounds.{bounded}
 use Rattle.engine.proofs.Starting.{start_flawed, start_cut, start_done}
 use Rattle.engine.proofs.Engine.start.Goals as goal
 
-pub repair-requires : goal.repair-requires
-repair-requires g c = rw c.examine.ensures.keeps (bounded _ _ c.in_ok-found.ensures.stands)
-
 pub returns-in_err-found : goal.returns-in_err-found
 returns-in_err-found g c =
     let out = err_from_is_err_and c.from_residual.result c.from_residual.ensures.1 in
@@ -25,4 +22,4 @@ returns-in_err-log g c =
 pub returns : goal.returns
 returns g c =
     let found = c.in_ok-found.ensures in
-    start_done c.power_on.ensures c.examine.ensures.keeps found.examined (bounded _ _ found.stands) _ c.in_ok-log.ensures
+    rw c.idle.ensures (start_done c.power_on.ensures c.examine.ensures.keeps found.examined (bounded _ _ found.stands) _ c.in_ok-log.ensures)

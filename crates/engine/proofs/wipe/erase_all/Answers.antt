@@ -1,6 +1,6 @@
 use Rattle.std.proofs.Common.{arith}
 use Rattle.std.proofs.lemmas.Result.{err_from_is_err_and}
-use Rattle.engine.proofs.Erasing.{erase_none, erase_more, erase_stops, erase_all}
+use Rattle.engine.proofs.Erasing.{erase_none, erase_more, erase_stops}
 use Rattle.engine.proofs.wipe.erase_all.Goals as goal
 
 pub loop-b-init : goal.loop-b-init
@@ -13,6 +13,3 @@ returns-in_err-erase g c =
 
 pub loop-b-preserved : goal.loop-b-preserved
 loop-b-preserved g c = erase_more c.loop-b.invariant c.in_ok-erase.ensures
-
-pub returns : goal.returns
-returns g c = erase_all _ _ (omega arith) c.loop-b.invariant

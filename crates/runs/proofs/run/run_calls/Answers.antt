@@ -1,9 +1,9 @@
 -- A run is the format, and then one call after another.
 use Rattle.std.proofs.Common.{◌≡◌, ◌+◌, ◌<◌, List, length, drop, sym, refl, ap, ◌∙◌, arith, length-set, rules}
-use Rattle.std.proofs.lemmas.List.{take_more_set, take_more, drop-set-lt, drop-drop}
+use Rattle.std.proofs.lemmas.List.{take_more_set, take_more, get_or-take, drop-set-lt, drop-drop}
 use Rattle.engine.specs.Formats.{sizes_on}
 use Rattle.runs.specs.declared.run.Call.TheVariants as call
-use Rattle.runs.specs.declared.run.Answer.{Answer}
+use Rattle.runs.specs.Ledger.{Answer}
 use Rattle.runs.proofs.Chaining.{running_none, running_more}
 use Rattle.runs.proofs.Formatted.{format_inv}
 use Rattle.runs.proofs.Serving.{next}
@@ -21,7 +21,9 @@ loop-k-preserved g c =
     let a = c.serve-answer.result in
     let there : k < length xs = search rules in
     let asked : k < length c.args.calls.now = search rules in
-    let calls = rw inv.0 at c.serve-answer.ensures.calls in (
+    let early : k < c.min-count.result = search rules in
+    let same = get_or-take c.min-count.result c.args.calls.now k call.Start early in
+    let calls = rw (inv.0, same) at c.serve-answer.ensures.calls in (
       c.serve-answer.ensures.same ∙ inv.0,
       length-set xs k a ∙ inv.1,
       drop-set-lt (k + 1) xs k a (omega arith) ∙ sym (drop-drop 1 k xs) ∙ ap (λ (l : List Answer). drop 1 l) inv.2 ∙ drop-drop 1 k ys,
@@ -30,8 +32,8 @@ loop-k-preserved g c =
           rw (take_more_set xs k a there, take_more c.args.calls.now k call.Start asked) (running_more run calls (next run.inv calls)),
     )
 
-pub returns : goal.returns
-returns g c =
+pub returns-clause-law : goal.returns-clause-law
+returns-clause-law g c =
     let accepts = c.in_ok-format.ensures.formats in
     let forgets = c.in_ok-format.ensures.forgets in
     let s = g.C.Chip.flash c.args.engine.now.chip in
@@ -41,7 +43,4 @@ returns g c =
     let blank-inv = format_inv c.args.sectors c.args.tally c.args.name.now s f c.args.engine.now.memory accepts in
     let z = sizes_on s.blocks c.args.sectors c.args.tally in
     let run = (inv.3 z (rw forgets blank-inv)).ran in
-    record {
-      law = (f, accepts, rw (all, forgets) at run);
-      noted = (search rules, inv.1, rw all at inv.2);
-    }
+    (f, accepts, rw (all, forgets) at run)
