@@ -54,7 +54,7 @@ fn front<'a>(rest: &'a [u8]) -> Option<Head<'a>>
     match rest {
         [tag, lo, hi, after @ ..] => Some(Head {
             tag: *tag,
-            len: usize::from(*lo) + 256 * usize::from(*hi),
+            len: usize::from(u16::from_le_bytes([*lo, *hi])),
             after,
         }),
         _ => None,
@@ -87,7 +87,7 @@ fn number(body: &[u8]) -> u16
     requires { length body.now ≡ 2 }
     ensures { result ≡ word_at body.now 0 }
 {
-    u16::from(body[0]) + 256 * u16::from(body[1])
+    u16::from_le_bytes([body[0], body[1]])
 }
 
 // The field of a number with one of the four tags of numbers.

@@ -1,10 +1,10 @@
 #![tactic(auto)]
 // The label in the first page of a volume: its reader, its writer, and the sizes that it states.
-ghost use Rattle.std.specs.Prelude.{◌≡◌, ◌+◌, ◌≤◌, length};
+ghost use Rattle.std.specs.Prelude.{◌≡◌, ◌+◌, ◌≤◌, ◌++◌, length};
 ghost use Rattle.chip.specs.Ranges.{Tells};
 ghost use Rattle.label.specs.Labels.{Sized, Labelled, FirstStray};
 ghost use Rattle.label.specs.Found.{Gathered};
-ghost use Rattle.label.specs.Written.{number_field, name_field, Added, Writes};
+ghost use Rattle.label.specs.Written.{number_field, name_field, Writes};
 
 mod bytes;
 mod field;
@@ -105,12 +105,8 @@ fn gather<'a>(page: &'a [u8]) -> Result<Ended<'a>, LabelFault>
 fn first_stray(page: &[u8], from: usize) -> Option<usize>
     ensures { FirstStray page.now from result }
 {
-    for i in from..page.len() {
-        if page[i] != ERASED {
-            return Some(i);
-        }
-    }
-    None
+    let skipped = page.get(from..)?.iter().position(|b| *b != ERASED)?;
+    Some(from + skipped)
 }
 
 // Reads the label of a chip of `blocks` blocks, or says at which byte of the page it is at fault.
@@ -146,8 +142,9 @@ fn number_field(tag: u8, value: u16) -> [u8; 5]
 
 // Adds the field of a name; an empty name has none.
 fn add_name(label: &mut LabelBytes, name: &[u8])
-    requires { (length name.now ≤ 32) × (label.old.len + 3 + length name.now ≤ 58) }
-    ensures { Added label.old (name_field name.now) label.new }
+    requires short { length name.now ≤ 32 }
+    requires room { length label.old + 3 + length name.now ≤ 58 }
+    ensures { label.new ≡ label.old ++ name_field name.now }
 {
     if name.is_empty() {
         return;

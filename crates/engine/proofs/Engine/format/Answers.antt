@@ -12,7 +12,7 @@ returns-in_err-write g c =
     let out = err_from_is_err_and c.from_residual.result c.from_residual.ensures.1 in
     rw (out.1, out.2)
     record {
-      formats = refused _ _ _ _ _ _ s _ t c.blocks-2.ensures c.in-Some.ensures slice.bytes slice.len c.power_on.ensures f c.in_err-write.ensures.tries;
+      formats = refused _ _ _ _ _ _ s _ t c.blocks-2.ensures c.in-Some.ensures slice.bytes c.power_on.ensures f c.in_err-write.ensures.tries;
       forgets = λ _. refl;
       untouched = λ e. absurd (never_sizes f e);
     }
@@ -24,7 +24,7 @@ returns g c =
     let slice = c.as_slice.ensures in
     let done = c.in_ok-write.ensures in
     record {
-      formats = accepted _ _ _ _ _ _ s _ t c.blocks-2.ensures c.in-Some.ensures slice.bytes slice.len c.power_on.ensures done.bytes done.tries;
+      formats = accepted _ _ _ _ _ _ s _ t c.blocks-2.ensures c.in-Some.ensures slice.bytes c.power_on.ensures done.bytes done.tries;
       forgets = refl;
       untouched = tt;
     }
