@@ -93,11 +93,11 @@ fn gather<'a>(page: &'a [u8]) -> Result<Ended<'a>, LabelFault>
     let mut at = 0;
     loop {
         let field = field_at(page, at)?;
-        if let Field::End { at } = field {
+        if let Field::End = field {
             return Ok(Ended { found, end: at });
         }
-        found.take(field)?;
-        at = field.end();
+        found.take(field, at)?;
+        at = field.end(at);
     }
 }
 
