@@ -22,6 +22,13 @@ pub const FORMAT: u16 = 1;
 // The most bytes of a name.
 pub const LONGEST_NAME: usize = 32;
 
+// The most tally blocks of a volume, and the fewest and the most ring blocks.
+const MOST_TALLY: u16 = 8;
+
+const LEAST_RING: u16 = 5;
+
+const MOST_RING: u16 = 4096;
+
 // The tags of the fields; those from the first to the last that are skipped are free for others.
 const TAG_END: u8 = 0;
 
@@ -56,9 +63,9 @@ impl Sizes {
         ensures { Tells result (Sized blocks self.now) }
     {
         self.tally >= 1
-            && self.tally <= 8
-            && self.ring >= 5
-            && self.ring <= 4096
+            && self.tally <= MOST_TALLY
+            && self.ring >= LEAST_RING
+            && self.ring <= MOST_RING
             && self.sectors >= 1
             && u32::from(self.sectors) <= 7 * (u32::from(self.ring) - 4)
             && 1 + u32::from(self.tally) + u32::from(self.ring) == u32::from(blocks)
@@ -120,9 +127,7 @@ pub fn read_label<'a>(page: &'a [u8], blocks: u16) -> Result<Label<'a>, LabelFau
     if let Some(at) = first_stray(page, end + 3) {
         return Err(LabelFault { at });
     }
-    let Some(sizes) = found.sizes() else {
-        return Err(LabelFault { at: end });
-    };
+    let sizes = found.sizes().ok_or(LabelFault { at: end })?;
     if !sizes.fits(blocks) {
         return Err(LabelFault { at: end });
     }
