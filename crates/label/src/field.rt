@@ -73,10 +73,8 @@ fn told<'a>(tag: u8, bytes: &'a [u8]) -> Option<Field<'a>>
         (TAG_RING, [low, high]) => Some(Field::Ring(u16::from_le_bytes([*low, *high]))),
         (TAG_SECTORS, [low, high]) => Some(Field::Sectors(u16::from_le_bytes([*low, *high]))),
         (TAG_TALLY, [low, high]) => Some(Field::Tally(u16::from_le_bytes([*low, *high]))),
-        (TAG_NAME, name) if !name.is_empty() && name.len() <= LONGEST_NAME => Some(Field::Name(
-            name,
-        )),
-        (TAG_FIRST_SKIPPED..=TAG_LAST_SKIPPED, skipped) => Some(Field::Skipped(skipped)),
+        (TAG_NAME, [_, ..]) if bytes.len() <= LONGEST_NAME => Some(Field::Name(bytes)),
+        (TAG_FIRST_SKIPPED..=TAG_LAST_SKIPPED, _) => Some(Field::Skipped(bytes)),
         _ => None,
     }
 }
