@@ -3,7 +3,6 @@
 ghost use Rattle.std.specs.Prelude.{◌≡◌, true};
 ghost use Rattle.chip.specs.Flash.{awake};
 ghost use Rattle.chip.specs.Steps.{program, erase, Answers, Reads};
-ghost use Rattle.chip.specs.declared.Fault.TheVariants.{Cut};
 ghost use Rattle.rows.specs.Rows.{Bytes};
 ghost use Rattle.bench_chip.specs.Burns.{shown, Idle, Began, Programs, Erases};
 
@@ -13,6 +12,7 @@ use chip::{BLOCK, Block, Chip, Fault, Home, Span};
 #[derive(Clone, Copy, PartialEq, Eq, Debug)]
 pub struct Plan {
     // The number of the step, from 1 on, among the programs and erases that are begun; 0 is none.
+    // No Option: a script may say 0, and a count that has run down ends there, so that would be a second none.
     pub step: u32,
     // The ones that a cut program spares, and the byte that a cut erase leaves.
     pub mask: u8,
@@ -56,21 +56,12 @@ impl<'a> Bench<'a> {
         cut
     }
 
-    // Copies a range into a buffer. By `&self`, so that the image is known to stay as it is.
+    // Copies a range into a buffer. By `&self`, so that the image is known to stay as it is: tried in `read` itself, and
+    // the proof knew no more of the image than its length.
     fn copy(&self, span: Span, into: &mut [u8]) -> Result<(), Fault>
         ensures { Reads (shown self.now) span.block.0 span.at span.len into.old result into.new }
     {
         rows::read_range(self.image, self.on, span, into)
-    }
-
-    // Tells that power was lost in a step on a block.
-    fn lost(&self, block: Block) -> Fault
-        ensures { result ≡ Cut ((shown self.now).home block.0) }
-    {
-        Fault::Cut(Home {
-            name: self.name,
-            block: block.0,
-        })
     }
 }
 
@@ -112,9 +103,8 @@ impl<'a> Chip for Bench<'a> {
         }
         let base = rows::place_of(span.block, span.at);
         if self.begin() {
-            let mask = self.plan.mask;
-            rows::clear_bits(self.image, base, given, mask);
-            return Err(self.lost(span.block));
+            rows::clear_bits(self.image, base, given, self.plan.mask);
+            return Err(rows::lost(self.name, span.block));
         }
         rows::clear_bits(self.image, base, given, 0);
         Ok(())
@@ -132,9 +122,8 @@ impl<'a> Chip for Bench<'a> {
         }
         let base = rows::place_of(block, 0);
         if self.begin() {
-            let mask = self.plan.mask;
-            rows::fill_range(self.image, base, BLOCK, mask);
-            return Err(self.lost(block));
+            rows::fill_range(self.image, base, BLOCK, self.plan.mask);
+            return Err(rows::lost(self.name, block));
         }
         rows::fill_range(self.image, base, BLOCK, 0xFF);
         Ok(())

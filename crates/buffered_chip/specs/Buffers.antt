@@ -8,17 +8,17 @@ use Rattle.buffered_chip.specs.Plans.{counted, powered}
 
 -- the flash that the chip is
 abbrev pub shown : Buffered → Flash
-shown c = flash_of c.image.now c.on c.name
+shown c = flash_of c.image.now c.status.on c.status.name
 
 -- a call that begins no step keeps the bytes, the page buffer, the name and the plan
 pub record Idle (s t : Buffered) : Type 0 where
   pub page : t.page ≡ s.page
   pub image : t.image.now ≡ s.image.now
-  pub name : t.name ≡ s.name
-  pub plan : t.plan ≡ s.plan
+  pub name : t.status.name ≡ s.status.name
+  pub plan : t.status.plan ≡ s.status.plan
 
 -- what a program or an erase leaves beside the bytes, by its answer
 pub record Settled (s : Buffered) (r : Result (Unit {0}) Fault) (t : Buffered) : Type 0 where
-  pub name : t.name ≡ s.name
-  pub on : t.on ≡ powered r s.on
-  pub plan : t.plan ≡ counted r s.plan
+  pub name : t.status.name ≡ s.status.name
+  pub on : t.status.on ≡ powered r s.status.on
+  pub plan : t.status.plan ≡ counted r s.status.plan

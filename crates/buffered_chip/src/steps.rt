@@ -1,12 +1,11 @@
 // What a program and an erase do to the bytes, and how they end.
 ghost use Rattle.std.specs.Prelude.{◌≡◌, ◌+◌, ◌*◌, ◌%◌, ◌<◌, ◌≤◌, length, replicate};
 ghost use Rattle.chip.specs.Steps.{program, erase, Answers};
-ghost use Rattle.chip.specs.declared.Fault.TheVariants.{Cut};
 ghost use Rattle.rows.specs.Rows.{count_of, flash_of, Bytes, Masked};
-ghost use Rattle.buffered_chip.specs.Plans.{reached, powered, Stored, Wiped};
+ghost use Rattle.buffered_chip.specs.Plans.{reached, counted, powered, Stored, Wiped};
 
-use crate::Plan;
-use chip::{BLOCK, Block, Fault, Home, PAGE, Span};
+use crate::{Plan, Status};
+use chip::{BLOCK, Block, Fault, PAGE, Span};
 
 impl Plan {
     // How many of `len` bytes the next step finishes.
@@ -21,43 +20,42 @@ impl Plan {
     }
 }
 
-// The bytes of a page buffer while they are in use; when it ends they are all ones again.
+impl Status {
+    // Counts a step that was begun, and lets power go if it was cut.
+    pub fn settle(&mut self, answer: Result<(), Fault>) -> Result<(), Fault>
+        ensures told { result ≡ answer }
+        ensures name { self.new.name ≡ self.old.name }
+        ensures power { self.new.on ≡ powered answer self.old.on }
+        ensures plan { self.new.plan ≡ counted answer self.old.plan }
+    {
+        match answer {
+            Ok(()) => self.plan.step = self.plan.step.saturating_sub(1),
+            Err(Fault::Cut(_)) => {
+                self.plan.step = self.plan.step.saturating_sub(1);
+                self.on = false;
+            }
+            Err(_) => {}
+        }
+        answer
+    }
+}
+
+// A page buffer while it is in use; when it ends it is all ones again.
 struct Ones<'a> {
-    bytes: &'a mut [u8],
+    bytes: &'a mut [u8; PAGE],
 }
 
 impl Drop for Ones<'_> {
     fn drop(self)
-        ensures { self.exit.0.now ≡ replicate (length self.entry.bytes.now) 255 }
+        ensures { self.exit.0.now ≡ replicate 512 255 }
     {
         self.bytes.fill(0xFF);
         let Ones { bytes: _ } = self;
     }
 }
 
-// What a step goes by besides the bytes.
-#[derive(Clone, Copy)]
-pub struct Status {
-    pub name: u16,
-    pub on: bool,
-    pub plan: Plan,
-}
-
-impl Status {
-    // Tells that power was lost in a step on a block.
-    fn lost(&self, block: Block) -> Fault
-        ensures { result ≡ Cut (record { name = self.now.name; block = block.0 }) }
-    {
-        Fault::Cut(Home {
-            name: self.name,
-            block: block.0,
-        })
-    }
-}
-
 // Puts bytes into a page of ones, and stores it over the page of a block that the byte `at` lies in.
-fn burn(page: &mut [u8], image: &mut [u8], block: Block, at: usize, given: &[u8])
-    requires page { length page.old ≡ 512 }
+fn burn(page: &mut [u8; PAGE], image: &mut [u8], block: Block, at: usize, given: &[u8])
     requires bytes { Bytes image.old }
     requires there { block.0 < count_of image.old }
     requires ends { at < 4096 }
@@ -73,13 +71,12 @@ fn burn(page: &mut [u8], image: &mut [u8], block: Block, at: usize, given: &[u8]
 // Programs a range by way of the page buffer, or as much of it as the plan lets it. On every way out the buffer is all
 // ones again.
 pub fn store(
-    page: &mut [u8],
+    page: &mut [u8; PAGE],
     image: &mut [u8],
     status: Status,
     span: Span,
     given: &[u8],
 ) -> Result<(), Fault>
-    requires { length page.old ≡ 512 }
     ensures ones { page.new ≡ replicate 512 255 }
     ensures answers { Answers (program span.block.0 span.at span.len given.now) (flash_of image.old status.on status.name) result (flash_of image.new (powered result status.on) status.name) }
     ensures stored { Stored span.block.0 span.at given.now status.plan image.old result image.new }
@@ -94,7 +91,7 @@ pub fn store(
     let reach = status.plan.reach(given.len());
     burn(buffer.bytes, image, span.block, span.at, &given[..reach]);
     if status.plan.step == 1 {
-        return Err(status.lost(span.block));
+        return Err(rows::lost(status.name, span.block));
     }
     Ok(())
 }
@@ -117,7 +114,7 @@ pub fn wipe(image: &mut [u8], status: Status, block: Block) -> Result<(), Fault>
         0xFF,
     );
     if status.plan.step == 1 {
-        return Err(status.lost(block));
+        return Err(rows::lost(status.name, block));
     }
     Ok(())
 }

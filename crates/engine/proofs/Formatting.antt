@@ -1,5 +1,5 @@
 -- What a format leaves on a chip.
-use Rattle.std.proofs.Common.{◌≡◌, ℕ, zero, suc, ◌<◌, ◌≤◌, List, [], ◌∷◌, length, get_or, take, Ok, Err, Result, sym, refl, ap, ◌∙◌, subst, inr, ⊎_elim, zero-add, arith}
+use Rattle.std.proofs.Common.{◌≡◌, ℕ, zero, suc, ◌<◌, ◌≤◌, List, [], ◌∷◌, length, get_or, Ok, Err, Result, sym, refl, ap, ◌∙◌, subst, inr, ⊎_elim, zero-add, arith}
 use lib.Bits.{bit_and, and_comm, and_mask}
 use Rattle.std.proofs.lemmas.Bool.{cases_eq}
 use Rattle.chip.specs.declared.Fault.{Fault}
@@ -8,7 +8,6 @@ use Rattle.chip.specs.Steps.{program, erase}
 use Rattle.chip.specs.Plans as plans
 use Rattle.chip.specs.Plans.{Tries, Performs, AllAllowed}
 use Rattle.chip.proofs.Performed.{performed, all_both, performs_parts, performed_frame, only_cut}
-use Rattle.label.specs.declared.bytes.LabelBytes.{LabelBytes}
 use Rattle.label.specs.Written.{label_bytes}
 use Rattle.engine.specs.Refusals.{numbers, converted}
 use Rattle.engine.specs.Formats.{erasing, formatting, Formatted, sizes_on, Takes, Admitted, Accepts, Formats}
@@ -65,7 +64,7 @@ formatted s {t} label some bytes short h =
     }
 
 -- a format whose steps were tried is accepted or cut
-module _ (blocks sectors tally : ℕ) (name : List ℕ) (buffer : LabelBytes) (label : List ℕ) (s a t : Flash) (count : blocks ≡ s.blocks) (admitted : Admitted blocks sectors tally name buffer) (slice : label ≡ take buffer.len buffer.bytes) (len : length label ≡ buffer.len) (woken : a ≡ awake s) where
+module _ (blocks sectors tally : ℕ) (name buffer label : List ℕ) (s a t : Flash) (count : blocks ≡ s.blocks) (admitted : Admitted blocks sectors tally name buffer) (slice : label ≡ buffer) (woken : a ≡ awake s) where
   takes : Takes s.blocks sectors tally name
   takes = subst (λ n. Takes n sectors tally name) count admitted.takes
 
@@ -73,10 +72,10 @@ module _ (blocks sectors tally : ℕ) (name : List ℕ) (buffer : LabelBytes) (l
   bytes = slice ∙ admitted.bytes ∙ ap (λ n. label_bytes (sizes_on n sectors tally) name) count
 
   some : 0 < length label
-  some = omega (arith, admitted.some)
+  some = rw slice admitted.some
 
   short : length label ≤ 58
-  short = omega (arith, admitted.most)
+  short = rw slice admitted.most
 
   there : 0 < s.blocks
   there = omega (arith, takes.sized.whole)

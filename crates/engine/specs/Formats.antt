@@ -1,12 +1,11 @@
 -- What format does: which sizes it takes, its steps in their order, and the image that it leaves.
-use Rattle.std.specs.Prelude.{◌≡◌, ℕ, zero, suc, ◌-◌, ◌<◌, ◌≤◌, true, ◌⊎◌, List, [], ◌∷◌, ◌++◌, length, take, Some, None, Ok, Err, Option, Result, slice_index}
+use Rattle.std.specs.Prelude.{◌≡◌, ℕ, zero, suc, ◌-◌, ◌<◌, ◌≤◌, true, ◌⊎◌, List, [], ◌∷◌, ◌++◌, length, Some, None, Ok, Err, Option, Result, slice_index}
 use Rattle.chip.specs.declared.Home.{Home}
 use Rattle.chip.specs.declared.Fault.TheVariants as fault
 use Rattle.chip.specs.Flash.{Flash, awake}
 use Rattle.chip.specs.Steps.{Step, program, erase, Frame}
 use Rattle.chip.specs.Plans.{Performs}
 use Rattle.label.specs.declared.Sizes.{Sizes}
-use Rattle.label.specs.declared.bytes.LabelBytes.{LabelBytes}
 use Rattle.label.specs.Labels.{Sized}
 use Rattle.label.specs.Written.{label_bytes}
 use Rattle.engine.specs.declared.refusal.Refusal.{Refusal}
@@ -21,14 +20,14 @@ pub record Takes (blocks sectors tally : ℕ) (name : List ℕ) : Type 0 where
   pub sized : Sized blocks (sizes_on blocks sectors tally)
   pub short : length name ≤ 32
 
--- the label of an admitted format, in its buffer
-pub record Admitted (blocks sectors tally : ℕ) (name : List ℕ) (label : LabelBytes) : Type 0 where
+-- the label of an admitted format
+pub record Admitted (blocks sectors tally : ℕ) (name label : List ℕ) : Type 0 where
   pub takes : Takes blocks sectors tally name
-  pub bytes : take label.len label.bytes ≡ label_bytes (sizes_on blocks sectors tally) name
-  pub some : 0 < label.len
-  pub most : label.len ≤ 58
+  pub bytes : label ≡ label_bytes (sizes_on blocks sectors tally) name
+  pub some : 0 < length label
+  pub most : length label ≤ 58
 
-abbrev pub Admits : ℕ → ℕ → ℕ → List ℕ → Option LabelBytes → Type 0
+abbrev pub Admits : ℕ → ℕ → ℕ → List ℕ → Option (List ℕ) → Type 0
 Admits blocks sectors tally name None = Takes blocks sectors tally name → ⊥
 Admits blocks sectors tally name (Some label) = Admitted blocks sectors tally name label
 

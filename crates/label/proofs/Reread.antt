@@ -67,10 +67,10 @@ numbers page name x fresh =
     let n2 = sound_number page 5 2 x.ring (omega arith) (omega arith) (omega arith) (b 5 (omega arith)) (b 6 (omega arith)) (b 7 (omega arith)) (b 8 (omega arith)) (b 9 (omega arith)) in
     let n3 = sound_number page 10 3 x.sectors (omega arith) (omega arith) (omega arith) (b 10 (omega arith)) (b 11 (omega arith)) (b 12 (omega arith)) (b 13 (omega arith)) (b 14 (omega arith)) in
     let n4 = sound_number page 15 4 x.tally (omega arith) (omega arith) (omega arith) (b 15 (omega arith)) (b 16 (omega arith)) (b 17 (omega arith)) (b 18 (omega arith)) (b 19 (omega arith)) in
-    let w1 = walk page 0 0 (found None None None None None) (found (Some 1) None None None None) (Format 0 1) (start page) n1.0 (refl, n1.1, n1.2) (λ p e. let z : ◌≡◌ {A = ℕ} 0 1 = cc in omega arith) ((refl, refl), refl, refl, refl, refl) in
-    let w2 = walk page 1 5 (found (Some 1) None None None None) (found (Some 1) (Some x.ring) None None None) (Ring 5 x.ring) w1 n2.0 (refl, n2.1, n2.2) (λ p e. let z : ◌≡◌ {A = ℕ} 0 1 = cc in omega arith) ((refl, refl), refl, refl, refl, refl) in
-    let w3 = walk page 2 10 (found (Some 1) (Some x.ring) None None None) (found (Some 1) (Some x.ring) (Some x.sectors) None None) (Sectors 10 x.sectors) w2 n3.0 (refl, n3.1, n3.2) (λ p e. let z : ◌≡◌ {A = ℕ} 0 1 = cc in omega arith) ((refl, refl), refl, refl, refl, refl) in
-    walk page 3 15 (found (Some 1) (Some x.ring) (Some x.sectors) None None) (found (Some 1) (Some x.ring) (Some x.sectors) (Some x.tally) None) (Tally 15 x.tally) w3 n4.0 (refl, n4.1, n4.2) (λ p e. let z : ◌≡◌ {A = ℕ} 0 1 = cc in omega arith) ((refl, refl), refl, refl, refl, refl)
+    let w1 = walk page 0 0 (found None None None None None) (found (Some 1) None None None None) (Format 1) (start page) n1.0 (n1.1, n1.2) (λ e. let z : ◌≡◌ {A = ℕ} 0 1 = cc in omega arith) ((refl, refl), refl, refl, refl, refl) in
+    let w2 = walk page 1 5 (found (Some 1) None None None None) (found (Some 1) (Some x.ring) None None None) (Ring x.ring) w1 n2.0 (n2.1, n2.2) (λ e. let z : ◌≡◌ {A = ℕ} 0 1 = cc in omega arith) ((refl, refl), refl, refl, refl, refl) in
+    let w3 = walk page 2 10 (found (Some 1) (Some x.ring) None None None) (found (Some 1) (Some x.ring) (Some x.sectors) None None) (Sectors x.sectors) w2 n3.0 (n3.1, n3.2) (λ e. let z : ◌≡◌ {A = ℕ} 0 1 = cc in omega arith) ((refl, refl), refl, refl, refl, refl) in
+    walk page 3 15 (found (Some 1) (Some x.ring) (Some x.sectors) None None) (found (Some 1) (Some x.ring) (Some x.sectors) (Some x.tally) None) (Tally x.tally) w3 n4.0 (n4.1, n4.2) (λ e. let z : ◌≡◌ {A = ℕ} 0 1 = cc in omega arith) ((refl, refl), refl, refl, refl, refl)
 
 -- what follows the numbers
 behind : (page name : List ℕ) (x : Sizes) (o : ℕ) → Fresh page x name → o < 492 → get_or page (20 + o) 0 ≡ get_or (name_field name ++ end_field) o 255
@@ -128,7 +128,7 @@ reads page (y ∷ ys) blocks x (Some s) short sized fresh named =
     let len : len_at page 20 ≡ m = omega arith in
     let some : 1 ≤ m = omega (arith, named.0) in
     let sound : Sound page 20 = (omega arith, inr (inr (inl (tag, omega arith, omega arith)))) in
-    let walked = walk page 4 20 old new (Name 20 s) (numbers page name x fresh) sound (refl, tag, named.1 ∙ sym (body page ys y x fresh short len)) (λ p e. let z : ◌≡◌ {A = ℕ} 0 1 = cc in omega arith) ((refl, refl), refl, refl, refl, refl) in
+    let walked = walk page 4 20 old new (Name s) (numbers page name x fresh) sound (tag, named.1 ∙ sym (body page ys y x fresh short len)) (λ e. let z : ◌≡◌ {A = ℕ} 0 1 = cc in omega arith) ((refl, refl), refl, refl, refl, refl) in
     let there : Walked page 5 (23 + m) new = subst (λ l. Walked page 5 (23 + l) new) (ap length named.1) walked in
     let past-name : (j k : ℕ) → m + j < 489 → k ≡ 23 + (m + j) → get_or page k 0 ≡ get_or end_field j 255 = λ j k lt e. ap (λ i. get_or page i 0) e ∙ after_name page ys y x j fresh lt in
     finish page 5 (23 + m) blocks new (record { sizes = x; name = Some s }) there

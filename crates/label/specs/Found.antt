@@ -17,17 +17,17 @@ abbrev pub Kept : {V U : Type 0} → Option V → V → ℕ → Result U LabelFa
 Kept old v at (Ok u) new = (old ≡ None) × (new ≡ Some v)
 Kept old v at (Err fault) new = (old ≢ None) × (fault.at ≡ at)
 
--- how a field is taken
-abbrev pub Taken : Found → Field → Result (Unit {0}) LabelFault → Found → Type 0
-Taken old (Format at v) r new = Kept old.format v at r new.format × (new.ring ≡ old.ring) × (new.sectors ≡ old.sectors) × (new.tally ≡ old.tally) × (new.name ≡ old.name)
-Taken old (Ring at v) r new = Kept old.ring v at r new.ring × (new.format ≡ old.format) × (new.sectors ≡ old.sectors) × (new.tally ≡ old.tally) × (new.name ≡ old.name)
-Taken old (Sectors at v) r new = Kept old.sectors v at r new.sectors × (new.format ≡ old.format) × (new.ring ≡ old.ring) × (new.tally ≡ old.tally) × (new.name ≡ old.name)
-Taken old (Tally at v) r new = Kept old.tally v at r new.tally × (new.format ≡ old.format) × (new.ring ≡ old.ring) × (new.sectors ≡ old.sectors) × (new.name ≡ old.name)
-Taken old (Name at s) r new = Kept old.name s at r new.name × (new.format ≡ old.format) × (new.ring ≡ old.ring) × (new.sectors ≡ old.sectors) × (new.tally ≡ old.tally)
-Taken old (Skipped at s) (Ok u) new = new ≡ old
-Taken old (Skipped at s) (Err fault) new = ⊥
-Taken old (End at) (Ok u) new = new ≡ old
-Taken old (End at) (Err fault) new = ⊥
+-- how a field at a byte is taken
+abbrev pub Taken : Found → Field → ℕ → Result (Unit {0}) LabelFault → Found → Type 0
+Taken old (Format v) at r new = Kept old.format v at r new.format × (new.ring ≡ old.ring) × (new.sectors ≡ old.sectors) × (new.tally ≡ old.tally) × (new.name ≡ old.name)
+Taken old (Ring v) at r new = Kept old.ring v at r new.ring × (new.format ≡ old.format) × (new.sectors ≡ old.sectors) × (new.tally ≡ old.tally) × (new.name ≡ old.name)
+Taken old (Sectors v) at r new = Kept old.sectors v at r new.sectors × (new.format ≡ old.format) × (new.ring ≡ old.ring) × (new.tally ≡ old.tally) × (new.name ≡ old.name)
+Taken old (Tally v) at r new = Kept old.tally v at r new.tally × (new.format ≡ old.format) × (new.ring ≡ old.ring) × (new.sectors ≡ old.sectors) × (new.name ≡ old.name)
+Taken old (Name s) at r new = Kept old.name s at r new.name × (new.format ≡ old.format) × (new.ring ≡ old.ring) × (new.sectors ≡ old.sectors) × (new.tally ≡ old.tally)
+Taken old (Skipped s) at (Ok u) new = new ≡ old
+Taken old (Skipped s) at (Err fault) new = ⊥
+Taken old End at (Ok u) new = new ≡ old
+Taken old End at (Err fault) new = ⊥
 
 -- the sizes that were found, with the format 1
 abbrev pub Holds : Found → Sizes → Type 0

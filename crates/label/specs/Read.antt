@@ -22,29 +22,40 @@ Sound page at = (after page at ≤ length page) × Suits (tag_at page at) (len_a
 
 -- a field as it stands at a byte
 abbrev pub FieldAt : List ℕ → ℕ → Field → Type 0
-FieldAt page at (Format p v) = (p ≡ at) × (tag_at page at ≡ 1) × Number page at v
-FieldAt page at (Ring p v) = (p ≡ at) × (tag_at page at ≡ 2) × Number page at v
-FieldAt page at (Sectors p v) = (p ≡ at) × (tag_at page at ≡ 3) × Number page at v
-FieldAt page at (Tally p v) = (p ≡ at) × (tag_at page at ≡ 4) × Number page at v
-FieldAt page at (Name p s) = (p ≡ at) × (tag_at page at ≡ 5) × Bytes page at s
-FieldAt page at (Skipped p s) = (p ≡ at) × (128 ≤ tag_at page at) × Bytes page at s
-FieldAt page at (End p) = (p ≡ at) × (tag_at page at ≡ 0)
+FieldAt page at (Format v) = (tag_at page at ≡ 1) × Number page at v
+FieldAt page at (Ring v) = (tag_at page at ≡ 2) × Number page at v
+FieldAt page at (Sectors v) = (tag_at page at ≡ 3) × Number page at v
+FieldAt page at (Tally v) = (tag_at page at ≡ 4) × Number page at v
+FieldAt page at (Name s) = (tag_at page at ≡ 5) × Bytes page at s
+FieldAt page at (Skipped s) = (128 ≤ tag_at page at) × Bytes page at s
+FieldAt page at End = tag_at page at ≡ 0
 
--- the field of a number with this tag at a byte
-abbrev pub NumberAs : ℕ → ℕ → ℕ → Field → Type 0
-NumberAs tag at v field = (page : List ℕ) → tag_at page at ≡ tag → Number page at v → FieldAt page at field
+-- what a tag and the bytes of a field say
+abbrev pub Says : ℕ → List ℕ → Field → Type 0
+Says tag bytes (Format v) = (tag ≡ 1) × (word_at bytes 0 ≡ v)
+Says tag bytes (Ring v) = (tag ≡ 2) × (word_at bytes 0 ≡ v)
+Says tag bytes (Sectors v) = (tag ≡ 3) × (word_at bytes 0 ≡ v)
+Says tag bytes (Tally v) = (tag ≡ 4) × (word_at bytes 0 ≡ v)
+Says tag bytes (Name s) = (tag ≡ 5) × (s.now ≡ bytes)
+Says tag bytes (Skipped s) = (128 ≤ tag) × (s.now ≡ bytes)
+Says tag bytes End = tag ≡ 0
+
+-- the field of a tag and its bytes, if their number goes with the tag
+abbrev pub Told : ℕ → List ℕ → Option Field → Type 0
+Told tag bytes None = Suits tag (length bytes) → ⊥
+Told tag bytes (Some field) = Suits tag (length bytes) × Says tag bytes field
 
 -- what the reader of a field answers at a byte
 abbrev pub ReadAt : List ℕ → ℕ → Result Field LabelFault → Type 0
 ReadAt page at (Ok field) = Sound page at × FieldAt page at field
 ReadAt page at (Err fault) = (Sound page at → ⊥) × (fault.at ≡ at)
 
--- the byte after a field
-abbrev pub end_of : Field → ℕ
-end_of (Format at v) = at + 5
-end_of (Ring at v) = at + 5
-end_of (Sectors at v) = at + 5
-end_of (Tally at v) = at + 5
-end_of (Name at s) = at + 3 + length s.now
-end_of (Skipped at s) = at + 3 + length s.now
-end_of (End at) = at + 3
+-- the byte after a field that begins at a byte
+abbrev pub end_of : ℕ → Field → ℕ
+end_of at (Format v) = at + 5
+end_of at (Ring v) = at + 5
+end_of at (Sectors v) = at + 5
+end_of at (Tally v) = at + 5
+end_of at (Name s) = at + 3 + length s.now
+end_of at (Skipped s) = at + 3 + length s.now
+end_of at End = at + 3

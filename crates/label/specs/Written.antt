@@ -1,10 +1,9 @@
 -- The bytes of a label as it is written: the fields in order of tag, the end field last.
-use Rattle.std.specs.Prelude.{◌≡◌, ℕ, ◌+◌, ◌/◌, ◌%◌, ◌<◌, ◌≤◌, List, [], ◌∷◌, ◌++◌, length, take, Some, None, Ok, Err, Option, Result, slice_index, slice_index_or}
+use Rattle.std.specs.Prelude.{◌≡◌, ℕ, ◌/◌, ◌%◌, ◌<◌, ◌≤◌, List, [], ◌∷◌, ◌++◌, length, Some, None, Ok, Err, Option, Result, slice_index, slice_index_or}
 use Rattle.std.specs.Borrow.{Bor}
 use Rattle.label.specs.declared.Sizes.{Sizes}
 use Rattle.label.specs.declared.Label.{Label}
 use Rattle.label.specs.declared.LabelFault.{LabelFault}
-use Rattle.label.specs.declared.bytes.LabelBytes.{LabelBytes}
 
 -- a number's field: tag, length 2, low byte, high byte
 abbrev pub number_field : ℕ → ℕ → List ℕ
@@ -28,20 +27,15 @@ label_bytes sizes name =
     ++ (number_field 4 sizes.tally
     ++ (name_field name ++ end_field))))
 
--- bytes were added behind those that a buffer held
-pub record Added (old : LabelBytes) (part : List ℕ) (new : LabelBytes) : Type 0 where
-  pub len : new.len ≡ old.len + length part
-  pub bytes : take new.len new.bytes ≡ take old.len old.bytes ++ part
-
--- a buffer that holds the label of these sizes and this name
-pub record Holding (sizes : Sizes) (name : List ℕ) (label : LabelBytes) : Type 0 where
+-- the label of these sizes and this name
+pub record Holding (sizes : Sizes) (name label : List ℕ) : Type 0 where
   pub short : length name ≤ 32
-  pub bytes : take label.len label.bytes ≡ label_bytes sizes name
-  pub some : 0 < label.len
-  pub most : label.len ≤ 58
+  pub bytes : label ≡ label_bytes sizes name
+  pub some : 0 < length label
+  pub most : length label ≤ 58
 
 -- what the writer of a label answers: only a name that is too long is refused
-abbrev pub Writes : Sizes → List ℕ → Option LabelBytes → Type 0
+abbrev pub Writes : Sizes → List ℕ → Option (List ℕ) → Type 0
 Writes sizes name None = 32 < length name
 Writes sizes name (Some label) = Holding sizes name label
 

@@ -1,22 +1,31 @@
 // The bytes of a label while it is written, in a buffer that holds the longest.
-ghost use Rattle.std.specs.Prelude.{◌≡◌, ◌+◌, ◌≤◌, ◌++◌, length, take};
+ghost use Rattle.std.specs.Prelude.{◌≡◌, ℕ, ◌+◌, ◌≤◌, List, [], ◌++◌, length, take};
+
+use std::marker::Model;
 
 // The most bytes of a written label.
 pub const LONGEST_LABEL: usize = 58;
 
-// The first `len` bytes of the buffer are the label.
-#[derive(Clone, Copy)]
+// A label as far as it is written: contracts see the list of its bytes.
+#[derive(Drop)]
 pub struct LabelBytes {
     bytes: [u8; LONGEST_LABEL],
     len: usize,
-    ghost whole: { length bytes ≡ 58 },
-    ghost inside: { len ≤ 58 },
+}
+
+impl Model for LabelBytes {
+    ghost Value = { List ℕ };
+
+    // The first `len` bytes of the buffer are the label.
+    ghost view = { λ l. take l.len l.bytes };
+
+    ghost invariant = { λ l. l.len ≤ 58 };
 }
 
 impl LabelBytes {
     // Before the first field.
     pub(crate) fn empty() -> LabelBytes
-        ensures { result.len ≡ 0 }
+        ensures { result ≡ [] }
     {
         LabelBytes {
             bytes: [0xFF; LONGEST_LABEL],
@@ -26,9 +35,8 @@ impl LabelBytes {
 
     // Adds `part` behind what is written so far.
     pub(crate) fn add(&mut self, part: &[u8])
-        requires { self.old.len + length part.now ≤ 58 }
-        ensures len { self.new.len ≡ self.old.len + length part.now }
-        ensures bytes { take self.new.len self.new.bytes ≡ take self.old.len self.old.bytes ++ part.now }
+        requires { length self.old + length part.now ≤ 58 }
+        ensures { self.new ≡ self.old ++ part.now }
     {
         let end = self.len + part.len();
         self.bytes[self.len..end].copy_from_slice(part);
@@ -37,8 +45,8 @@ impl LabelBytes {
 
     // The label alone.
     pub fn as_slice(&self) -> &[u8]
-        ensures bytes { result.now ≡ take self.now.len self.now.bytes }
-        ensures len { length result.now ≡ self.now.len }
+        ensures bytes { result.now ≡ self.now }
+        ensures most { length self.now ≤ 58 }
     {
         &self.bytes[..self.len]
     }

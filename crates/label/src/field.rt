@@ -1,8 +1,6 @@
 // One field of a label, read from the page where its tag stands.
-ghost use Rattle.std.specs.Prelude.{◌≡◌, ◌+◌, ◌*◌, ◌^◌, ◌<◌, ◌≤◌, length};
-ghost use Rattle.chip.specs.Ranges.{Tells};
-ghost use Rattle.label.specs.Fields.{Suits, word_at};
-ghost use Rattle.label.specs.Read.{FrontOf, HeadAt, NumberAs, ReadAt, end_of};
+ghost use Rattle.std.specs.Prelude.{◌≡◌, ◌^◌, ◌<◌, ◌≤◌, length};
+ghost use Rattle.label.specs.Read.{FrontOf, HeadAt, Told, ReadAt, end_of};
 
 use crate::{
     LONGEST_NAME, LabelFault, TAG_END, TAG_FIRST_SKIPPED, TAG_FORMAT, TAG_LAST_SKIPPED, TAG_NAME,
@@ -17,32 +15,28 @@ pub struct Head<'a> {
     pub after: &'a [u8],
 }
 
-// A field of a label, with the byte of its tag; a name and what is skipped are parts of the page.
+// What a field of a label says; a name and what is skipped are parts of the page.
 #[derive(Clone, Copy)]
 pub enum Field<'a> {
-    Format { at: usize, value: u16 },
-    Ring { at: usize, value: u16 },
-    Sectors { at: usize, value: u16 },
-    Tally { at: usize, value: u16 },
-    Name { at: usize, bytes: &'a [u8] },
-    Skipped { at: usize, bytes: &'a [u8] },
-    End { at: usize },
+    Format(u16),
+    Ring(u16),
+    Sectors(u16),
+    Tally(u16),
+    Name(&'a [u8]),
+    Skipped(&'a [u8]),
+    End,
 }
 
 impl<'a> Field<'a> {
-    // The byte after this field.
-    pub fn end(self) -> usize
-        requires { end_of self < 2 ^ 64 }
-        ensures { result ≡ end_of self.entry }
+    // The byte after this field, whose tag stands at the byte `at`.
+    pub fn end(self, at: usize) -> usize
+        requires { end_of at self < 2 ^ 64 }
+        ensures { result ≡ end_of at self.entry }
     {
         match self {
-            Field::Format { at, .. } => at + 5,
-            Field::Ring { at, .. } => at + 5,
-            Field::Sectors { at, .. } => at + 5,
-            Field::Tally { at, .. } => at + 5,
-            Field::Name { at, bytes } => at + 3 + bytes.len(),
-            Field::Skipped { at, bytes } => at + 3 + bytes.len(),
-            Field::End { at } => at + 3,
+            Field::Format(_) | Field::Ring(_) | Field::Sectors(_) | Field::Tally(_) => at + 5,
+            Field::Name(bytes) | Field::Skipped(bytes) => at + 3 + bytes.len(),
+            Field::End => at + 3,
         }
     }
 }
@@ -54,7 +48,7 @@ fn front<'a>(rest: &'a [u8]) -> Option<Head<'a>>
     match rest {
         [tag, lo, hi, after @ ..] => Some(Head {
             tag: *tag,
-            len: usize::from(*lo) + 256 * usize::from(*hi),
+            len: usize::from(u16::from_le_bytes([*lo, *hi])),
             after,
         }),
         _ => None,
@@ -69,37 +63,19 @@ fn head_at<'a>(page: &'a [u8], at: usize) -> Option<Head<'a>>
     front(&page[at..])
 }
 
-// Whether there is such a tag, and a field of it may be so long.
-fn suits(tag: u8, len: usize) -> bool
-    ensures { Tells result (Suits tag len) }
+// The field with a tag and these bytes, if there is such a tag, and a field of it may be so long.
+fn told<'a>(tag: u8, bytes: &'a [u8]) -> Option<Field<'a>>
+    ensures { Told tag bytes.now result }
 {
-    match tag {
-        TAG_END => len == 0,
-        TAG_FORMAT..=TAG_TALLY => len == 2,
-        TAG_NAME => len >= 1 && len <= LONGEST_NAME,
-        TAG_FIRST_SKIPPED..=TAG_LAST_SKIPPED => true,
-        _ => false,
-    }
-}
-
-// The number in two bytes, low byte first.
-fn number(body: &[u8]) -> u16
-    requires { length body.now ≡ 2 }
-    ensures { result ≡ word_at body.now 0 }
-{
-    u16::from(body[0]) + 256 * u16::from(body[1])
-}
-
-// The field of a number with one of the four tags of numbers.
-fn numbered<'a>(tag: u8, at: usize, value: u16) -> Field<'a>
-    requires { (1 ≤ tag) × (tag ≤ 4) }
-    ensures { NumberAs tag at value result }
-{
-    match tag {
-        TAG_FORMAT => Field::Format { at, value },
-        TAG_RING => Field::Ring { at, value },
-        TAG_SECTORS => Field::Sectors { at, value },
-        _ => Field::Tally { at, value },
+    match (tag, bytes) {
+        (TAG_END, []) => Some(Field::End),
+        (TAG_FORMAT, [low, high]) => Some(Field::Format(u16::from_le_bytes([*low, *high]))),
+        (TAG_RING, [low, high]) => Some(Field::Ring(u16::from_le_bytes([*low, *high]))),
+        (TAG_SECTORS, [low, high]) => Some(Field::Sectors(u16::from_le_bytes([*low, *high]))),
+        (TAG_TALLY, [low, high]) => Some(Field::Tally(u16::from_le_bytes([*low, *high]))),
+        (TAG_NAME, [_, ..]) if bytes.len() <= LONGEST_NAME => Some(Field::Name(bytes)),
+        (TAG_FIRST_SKIPPED..=TAG_LAST_SKIPPED, _) => Some(Field::Skipped(bytes)),
+        _ => None,
     }
 }
 
@@ -108,17 +84,8 @@ pub fn field_at<'a>(page: &'a [u8], at: usize) -> Result<Field<'a>, LabelFault>
     requires { at ≤ length page.now }
     ensures { ReadAt page.now at result }
 {
-    let Some(head) = head_at(page, at) else {
-        return Err(LabelFault { at });
-    };
-    if !suits(head.tag, head.len) || head.len > head.after.len() {
-        return Err(LabelFault { at });
-    }
-    let bytes = &head.after[..head.len];
-    Ok(match head.tag {
-        TAG_END => Field::End { at },
-        TAG_FORMAT..=TAG_TALLY => numbered(head.tag, at, number(bytes)),
-        TAG_NAME => Field::Name { at, bytes },
-        _ => Field::Skipped { at, bytes },
-    })
+    let fault = LabelFault { at };
+    let head = head_at(page, at).ok_or(fault)?;
+    let bytes = head.after.get(..head.len).ok_or(fault)?;
+    told(head.tag, bytes).ok_or(fault)
 }

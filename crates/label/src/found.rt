@@ -39,18 +39,17 @@ impl<'a> Found<'a> {
         }
     }
 
-    // Takes one more field, unless it repeats one that may stand only once.
-    pub fn take(&mut self, field: Field<'a>) -> Result<(), LabelFault>
-        ensures { Taken self.old field.entry result self.new }
+    // Takes one more field, whose tag stands at the byte `at`, unless it repeats one that may stand only once.
+    pub fn take(&mut self, field: Field<'a>, at: usize) -> Result<(), LabelFault>
+        ensures { Taken self.old field.entry at result self.new }
     {
         match field {
-            Field::Format { at, value } => keep(&mut self.format, value, at),
-            Field::Ring { at, value } => keep(&mut self.ring, value, at),
-            Field::Sectors { at, value } => keep(&mut self.sectors, value, at),
-            Field::Tally { at, value } => keep(&mut self.tally, value, at),
-            Field::Name { at, bytes } => keep(&mut self.name, bytes, at),
-            Field::Skipped { .. } => Ok(()),
-            Field::End { .. } => Ok(()),
+            Field::Format(value) => keep(&mut self.format, value, at),
+            Field::Ring(value) => keep(&mut self.ring, value, at),
+            Field::Sectors(value) => keep(&mut self.sectors, value, at),
+            Field::Tally(value) => keep(&mut self.tally, value, at),
+            Field::Name(bytes) => keep(&mut self.name, bytes, at),
+            Field::Skipped(_) | Field::End => Ok(()),
         }
     }
 

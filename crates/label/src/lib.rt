@@ -1,10 +1,10 @@
 #![tactic(auto)]
 // The label in the first page of a volume: its reader, its writer, and the sizes that it states.
-ghost use Rattle.std.specs.Prelude.{◌≡◌, ◌+◌, ◌≤◌, length};
+ghost use Rattle.std.specs.Prelude.{◌≡◌, ◌+◌, ◌≤◌, ◌++◌, length};
 ghost use Rattle.chip.specs.Ranges.{Tells};
 ghost use Rattle.label.specs.Labels.{Sized, Labelled, FirstStray};
 ghost use Rattle.label.specs.Found.{Gathered};
-ghost use Rattle.label.specs.Written.{number_field, name_field, Added, Writes};
+ghost use Rattle.label.specs.Written.{number_field, name_field, Writes};
 
 mod bytes;
 mod field;
@@ -15,12 +15,20 @@ pub use self::bytes::{LONGEST_LABEL, LabelBytes};
 use self::field::{Field, field_at};
 use self::found::Found;
 pub use self::page::first_page;
+use chip::ERASED;
 
 // The format number that a label states.
 pub const FORMAT: u16 = 1;
 
 // The most bytes of a name.
 pub const LONGEST_NAME: usize = 32;
+
+// The most tally blocks of a volume, and the fewest and the most ring blocks.
+const MOST_TALLY: u16 = 8;
+
+const LEAST_RING: u16 = 5;
+
+const MOST_RING: u16 = 4096;
 
 // The tags of the fields; those from the first to the last that are skipped are free for others.
 const TAG_END: u8 = 0;
@@ -39,9 +47,6 @@ const TAG_FIRST_SKIPPED: u8 = 0x80;
 
 const TAG_LAST_SKIPPED: u8 = 0xFE;
 
-// The byte of an erased cell.
-const ERASED: u8 = 0xFF;
-
 // The sizes of a volume: ring blocks, sectors, tally blocks.
 #[derive(Clone, Copy, PartialEq, Eq, Debug)]
 pub struct Sizes {
@@ -56,9 +61,9 @@ impl Sizes {
         ensures { Tells result (Sized blocks self.now) }
     {
         self.tally >= 1
-            && self.tally <= 8
-            && self.ring >= 5
-            && self.ring <= 4096
+            && self.tally <= MOST_TALLY
+            && self.ring >= LEAST_RING
+            && self.ring <= MOST_RING
             && self.sectors >= 1
             && u32::from(self.sectors) <= 7 * (u32::from(self.ring) - 4)
             && 1 + u32::from(self.tally) + u32::from(self.ring) == u32::from(blocks)
@@ -93,11 +98,11 @@ fn gather<'a>(page: &'a [u8]) -> Result<Ended<'a>, LabelFault>
     let mut at = 0;
     loop {
         let field = field_at(page, at)?;
-        if let Field::End { at } = field {
+        if let Field::End = field {
             return Ok(Ended { found, end: at });
         }
-        found.take(field)?;
-        at = field.end();
+        found.take(field, at)?;
+        at = field.end(at);
     }
 }
 
@@ -105,12 +110,8 @@ fn gather<'a>(page: &'a [u8]) -> Result<Ended<'a>, LabelFault>
 fn first_stray(page: &[u8], from: usize) -> Option<usize>
     ensures { FirstStray page.now from result }
 {
-    for i in from..page.len() {
-        if page[i] != ERASED {
-            return Some(i);
-        }
-    }
-    None
+    let skipped = page.get(from..)?.iter().position(|b| *b != ERASED)?;
+    Some(from + skipped)
 }
 
 // Reads the label of a chip of `blocks` blocks, or says at which byte of the page it is at fault.
@@ -124,9 +125,7 @@ pub fn read_label<'a>(page: &'a [u8], blocks: u16) -> Result<Label<'a>, LabelFau
     if let Some(at) = first_stray(page, end + 3) {
         return Err(LabelFault { at });
     }
-    let Some(sizes) = found.sizes() else {
-        return Err(LabelFault { at: end });
-    };
+    let sizes = found.sizes().ok_or(LabelFault { at: end })?;
     if !sizes.fits(blocks) {
         return Err(LabelFault { at: end });
     }
@@ -146,8 +145,9 @@ fn number_field(tag: u8, value: u16) -> [u8; 5]
 
 // Adds the field of a name; an empty name has none.
 fn add_name(label: &mut LabelBytes, name: &[u8])
-    requires { (length name.now ≤ 32) × (label.old.len + 3 + length name.now ≤ 58) }
-    ensures { Added label.old (name_field name.now) label.new }
+    requires short { length name.now ≤ 32 }
+    requires room { length label.old + 3 + length name.now ≤ 58 }
+    ensures { label.new ≡ label.old ++ name_field name.now }
 {
     if name.is_empty() {
         return;

@@ -1,5 +1,7 @@
 -- The flash that a joint shows: the blocks of one chip, then those of another, up to 65,535.
-use Rattle.std.specs.Prelude.{◌≡◌, ℕ, ◌+◌, ◌-◌, ◌<◌, min, cond, ◌&&◌, nat_lt}
+use Rattle.std.specs.Prelude.{◌≡◌, ℕ, ◌+◌, ◌-◌, ◌<◌, min, Bool, true, false, cond, ◌&&◌, Ok, Err, Result, nat_lt}
+use Rattle.chip.specs.declared.Fault.{Fault}
+use Rattle.chip.specs.declared.Fault.TheVariants.{Range, NoPower, Cut}
 use Rattle.chip.specs.Flash.{Flash}
 use Rattle.layers.specs.declared.joint.Half.{Half}
 use Rattle.layers.specs.declared.joint.Half.TheVariants.{Front, Back}
@@ -16,3 +18,10 @@ joined s t = record {
 abbrev pub Found : ℕ → ℕ → Half → Type 0
 Found n b (Front c) = (b < n) × (c.0 ≡ b)
 Found n b (Back c) = n + c.0 ≡ b
+
+-- where a call reaches a block, or why it is refused: a range outside comes first, then power
+abbrev pub Reached : Bool → ℕ → ℕ → Bool → Result Half Fault → Type 0
+Reached on n b within (Ok h) = (within ≡ true) × (on ≡ true) × Found n b h
+Reached on n b within (Err Range) = within ≡ false
+Reached on n b within (Err NoPower) = (within ≡ true) × (on ≡ false)
+Reached on n b within (Err (Cut h)) = ⊥

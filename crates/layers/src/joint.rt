@@ -1,6 +1,6 @@
 // Two chips as one.
 ghost use Rattle.std.specs.Prelude.{◌≡◌, ◌+◌, min, ◌&&◌};
-ghost use Rattle.layers.specs.Joints.{joined, Found};
+ghost use Rattle.layers.specs.Joints.{joined, Found, Reached};
 
 use chip::{Block, Chip, Fault, Home, Span};
 
@@ -11,7 +11,7 @@ pub struct Joint<A: Chip, B: Chip> {
     back: B,
 }
 
-// On which of the two chips a block lies, and which block it is there.
+// On which of the two chips a block lies, and which block it is there. No Result: neither half is a refusal.
 #[derive(Clone, Copy)]
 enum Half {
     Front(Block),
@@ -50,6 +50,19 @@ impl<A: Chip, B: Chip> Joint<A, B> {
             Half::Back(Block(block.0 - first))
         }
     }
+
+    // Where a block of the joint lies, for a call whose range is one of the joint if `within` says so.
+    fn reach(&self, block: Block, within: bool) -> Result<Half, Fault>
+        ensures { Reached (joined (A.Chip.flash self.now.front) (B.Chip.flash self.now.back)).on (A.Chip.flash self.now.front).blocks block.0 within result }
+    {
+        if !within {
+            return Err(Fault::Range);
+        }
+        if !self.both_on() {
+            return Err(Fault::NoPower);
+        }
+        Ok(self.half(block))
+    }
 }
 
 impl<A: Chip, B: Chip> Chip for Joint<A, B> {
@@ -74,39 +87,23 @@ impl<A: Chip, B: Chip> Chip for Joint<A, B> {
     }
 
     fn read(&mut self, span: Span, into: &mut [u8]) -> Result<(), Fault> {
-        if !span.is_within(self.shown(), into.len()) {
-            return Err(Fault::Range);
-        }
-        if !self.both_on() {
-            return Err(Fault::NoPower);
-        }
-        match self.half(span.block) {
+        let within = span.is_within(self.shown(), into.len());
+        match self.reach(span.block, within)? {
             Half::Front(block) => self.front.read(Span { block, ..span }, into),
             Half::Back(block) => self.back.read(Span { block, ..span }, into),
         }
     }
 
     fn program(&mut self, span: Span, given: &[u8]) -> Result<(), Fault> {
-        if !span.is_paged(self.shown(), given.len()) {
-            return Err(Fault::Range);
-        }
-        if !self.both_on() {
-            return Err(Fault::NoPower);
-        }
-        match self.half(span.block) {
+        let within = span.is_paged(self.shown(), given.len());
+        match self.reach(span.block, within)? {
             Half::Front(block) => self.front.program(Span { block, ..span }, given),
             Half::Back(block) => self.back.program(Span { block, ..span }, given),
         }
     }
 
     fn erase(&mut self, block: Block) -> Result<(), Fault> {
-        if block.0 >= self.shown() {
-            return Err(Fault::Range);
-        }
-        if !self.both_on() {
-            return Err(Fault::NoPower);
-        }
-        match self.half(block) {
+        match self.reach(block, block.0 < self.shown())? {
             Half::Front(block) => self.front.erase(block),
             Half::Back(block) => self.back.erase(block),
         }

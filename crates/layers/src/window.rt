@@ -52,23 +52,17 @@ impl<C: Chip> Chip for Window<C> {
     }
 
     fn read(&mut self, span: Span, into: &mut [u8]) -> Result<(), Fault> {
-        let Some(block) = self.inner(span.block) else {
-            return Err(Fault::Range);
-        };
+        let block = self.inner(span.block).ok_or(Fault::Range)?;
         self.chip.read(Span { block, ..span }, into)
     }
 
     fn program(&mut self, span: Span, given: &[u8]) -> Result<(), Fault> {
-        let Some(block) = self.inner(span.block) else {
-            return Err(Fault::Range);
-        };
+        let block = self.inner(span.block).ok_or(Fault::Range)?;
         self.chip.program(Span { block, ..span }, given)
     }
 
     fn erase(&mut self, block: Block) -> Result<(), Fault> {
-        let Some(block) = self.inner(block) else {
-            return Err(Fault::Range);
-        };
+        let block = self.inner(block).ok_or(Fault::Range)?;
         self.chip.erase(block)
     }
 

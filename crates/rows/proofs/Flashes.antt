@@ -1,11 +1,11 @@
 -- What a write to a row of bytes is to the flash of that row.
 use Rattle.std.proofs.Common.{◌≡◌, ℕ, ◌+◌, ◌*◌, ◌/◌, ◌<◌, ◌≤◌, min, Bool, true, false, List, length, get_or, sym, refl, ap, ◌∙◌, ⊎_elim, add-zero, arith, le-ltb, lt-ltb}
-use lib.Bits.{bit_and, bit_or, or_zero_r, and_comm}
+use lib.Bits.{bit_and, bit_or, or_zero_r, and_comm, and_self}
 use Rattle.std.proofs.lemmas.Bool.{cases_lt}
-use Rattle.chip.specs.Ranges.{Within, Paged}
-use Rattle.chip.specs.Steps.{Elsewhere, Between, finished, Programmed, TornProgram, Worked, Broke, Copied, program, erase}
-use Rattle.rows.specs.Rows.{place, count_of, flash_of, Bytes, Same, Outside, Masked, Filled}
-use Rattle.rows.proofs.Ones.{under, over, same}
+use Rattle.chip.specs.Ranges.{Paged}
+use Rattle.chip.specs.Steps.{Elsewhere, Between, finished, Programmed, TornProgram, Worked, Broke, program, erase}
+use Rattle.rows.specs.Rows.{place, count_of, flash_of, Bytes, Outside, Masked, Filled}
+use Rattle.rows.proofs.Ones.{under, over}
 
 pub place_at : (row : List ℕ) (b o : ℕ) → o < 4096 → place row b o ≡ get_or row (b * 4096 + o) 0
 place_at row b o h = rw (lt-ltb o 4096 h)
@@ -56,7 +56,7 @@ module _ (old new : List ℕ) (on on' : Bool) (name b at : ℕ) where
         })
         (λ ge. record {
           over = rw (kept_place k ge) (and_comm a (bit_and a g) ∙ under a g);
-          under = rw (kept_place k ge) (same a);
+          under = rw (kept_place k ge) (and_self a);
         })
         (cases_lt k n)
 
@@ -130,15 +130,4 @@ broke_erase old new on name b n x there o less small bytes f = record {
     elsewhere = flooded old new on false name b n x less f;
     inside = torn_place old new on false name b n x less f small bytes;
   };
-}
-
--- a read that was served
-pub copied_is : (row : List ℕ) (on : Bool) (name b at size : ℕ) (into new : List ℕ) → Within (count_of row) b at size (length into) → on ≡ true → Same row (b * 4096 + at) (length into) new → Copied (flash_of row on name) b at size into new
-copied_is row on name b at size into new w o s = record {
-  within = w;
-  on = o;
-  bytes = λ k h.
-      let lt : at + k < 4096 = omega (arith, w.ends) in
-      let joined : b * 4096 + at + k ≡ b * 4096 + (at + k) = omega arith in
-      s k h ∙ ap (λ i. get_or row i 0) joined ∙ sym (place_at row b (at + k) lt);
 }

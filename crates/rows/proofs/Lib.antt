@@ -1,3 +1,2 @@
-mod Written
 mod Ones
 pub mod Flashes

@@ -3,6 +3,7 @@
 ghost use Rattle.std.specs.Prelude.{◌≡◌, ℕ, ◌+◌, ◌*◌, ◌<◌, ◌≤◌, true, length};
 ghost use Rattle.chip.specs.Flash.{home_at};
 ghost use Rattle.chip.specs.Steps.{Reads};
+ghost use Rattle.chip.specs.declared.Fault.TheVariants.{Cut};
 ghost use Rattle.rows.specs.Rows.{count_of, flash_of, Bytes, Placed, Masked, Filled};
 
 use chip::{BLOCK, Block, Fault, Home, MOST_BLOCKS, Span};
@@ -13,7 +14,7 @@ pub fn whole_blocks(row: &[u8]) -> u16
     ensures count { result ≡ count_of row.now }
     ensures bytes { Bytes row.now }
 {
-    (row.len() / BLOCK).min(usize::from(MOST_BLOCKS)) as u16
+    u16::try_from(row.len() / BLOCK).unwrap_or(MOST_BLOCKS)
 }
 
 // Where the byte `at` of a block lies in a row. The product is taken in `usize`: block 16 would wrap in 16 bits.
@@ -36,6 +37,16 @@ pub fn home_of(row: &[u8], name: u16, block: Block) -> Home
     } else {
         Home { name: 0, block: 0 }
     }
+}
+
+// Tells that power was lost in a step on a block of a row under a name.
+pub fn lost(name: u16, block: Block) -> Fault
+    ensures { result ≡ Cut (record { name = name; block = block.0 }) }
+{
+    Fault::Cut(Home {
+        name,
+        block: block.0,
+    })
 }
 
 // Copies a range of a row into a buffer of that length, as a chip of any name reads it.
@@ -62,6 +73,7 @@ pub fn copy_in(row: &mut [u8], base: usize, given: &[u8])
 }
 
 // Clears, from `base` on, the bits that neither `given` nor `mask` has.
+// Tried: `iter_mut().zip(given)`; once that borrow is over, a proof knows the length of the row and not its bytes.
 pub fn clear_bits(row: &mut [u8], base: usize, given: &[u8], mask: u8)
     requires { base + length given.now ≤ length row.old }
     ensures { Masked row.old base (length given.now) given.now mask row.new }

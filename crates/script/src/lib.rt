@@ -21,14 +21,10 @@ fn number(s: &[u8]) -> Option<u16>
     }
     let mut n: u16 = 0;
     for b in s {
-        if *b < b'0' || *b > b'9' {
+        if !b.is_ascii_digit() {
             return None;
         }
-        let d = u16::from(*b - b'0');
-        if n > (65535 - d) / 10 {
-            return None;
-        }
-        n = 10 * n + d;
+        n = n.checked_mul(10)?.checked_add(u16::from(*b - b'0'))?;
     }
     Some(n)
 }
@@ -37,23 +33,15 @@ fn number(s: &[u8]) -> Option<u16>
 fn small_number(s: &[u8]) -> Option<u8>
     ensures { MatchOption result (Numeral 256 s.now → ⊥) (λ n. Numeral 256 s.now × (n ≡ value s.now)) }
 {
-    let n = number(s)?;
-    if n > 255 {
-        return None;
-    }
-    Some(n as u8)
+    u8::try_from(number(s)?).ok()
 }
 
 // The bytes before the first one that is `mark`, and those after it.
 fn cut<'a>(s: &'a [u8], mark: u8) -> Option<(&'a [u8], &'a [u8])>
     ensures { MatchOption result (Lacks mark s.now) (λ p. (s.now ≡ p.0.now ++ mark ∷ p.1.now) × Lacks mark p.0.now) }
 {
-    for (i, b) in s.iter().enumerate() {
-        if *b == mark {
-            return Some((&s[0..i], &s[i + 1..]));
-        }
-    }
-    None
+    let at = s.iter().position(|b| *b == mark)?;
+    Some((&s[..at], &s[at + 1..]))
 }
 
 // The first line of a text, without its line end, and the text after it; a last line needs no line end.
@@ -63,64 +51,36 @@ pub fn next_line<'a>(text: &'a [u8]) -> Option<(&'a [u8], &'a [u8])>
     if text.is_empty() {
         return None;
     }
-    match cut(text, b'\n') {
-        Some(parts) => Some(parts),
-        None => Some((text, &text[text.len()..])),
-    }
-}
-
-// What follows one blank.
-fn after_blank<'a>(s: &'a [u8]) -> Option<&'a [u8]>
-    ensures { MatchOption result ((x : List ℕ) → s.now ≢ 32 ∷ x) (λ p. s.now ≡ 32 ∷ p.now) }
-{
-    match s {
-        [b' ', rest @ ..] => Some(rest),
-        _ => None,
-    }
+    Some(cut(text, b'\n').unwrap_or((text, &[])))
 }
 
 // One number after a blank.
 fn one(s: &[u8]) -> Option<u16>
     ensures { MatchOption result ((n : ℕ) → One 65536 s.now n → ⊥) (One 65536 s.now) }
 {
-    match after_blank(s) {
-        Some(digits) => number(digits),
-        None => None,
-    }
+    number(s.strip_prefix(b" ")?)
 }
 
 // A number and a byte, each after a blank.
 fn number_and_byte(s: &[u8]) -> Option<(u16, u8)>
     ensures { MatchOption result ((a b : ℕ) → Two 65536 256 s.now a b → ⊥) (λ p. Two 65536 256 s.now p.0 p.1) }
 {
-    let Some(rest) = after_blank(s) else {
-        return None;
-    };
-    let Some((x, y)) = cut(rest, b' ') else {
-        return None;
-    };
-    let Some(a) = number(x) else {
-        return None;
-    };
-    let Some(b) = small_number(y) else {
-        return None;
-    };
-    Some((a, b))
+    let (x, y) = cut(s.strip_prefix(b" ")?, b' ')?;
+    Some((number(x)?, small_number(y)?))
 }
 
 // What a letter says with what comes behind it.
-fn command(first: char, rest: &[u8]) -> Option<Line>
+fn command(first: u8, rest: &[u8]) -> Option<Line>
     ensures { MatchOption result ((x : Line) → letter x ≡ first → Tail x rest.now → ⊥) (λ x. (letter x ≡ first) × Tail x rest.now) }
 {
     match first {
-        'x' => match number_and_byte(rest) {
-            Some((step, mask)) => Some(Line::Plan { step, mask }),
-            None => None,
-        },
-        'f' => match one(rest) {
-            Some(sectors) => Some(Line::Format { sectors }),
-            None => None,
-        },
+        b'x' => {
+            let (step, mask) = number_and_byte(rest)?;
+            Some(Line::Plan { step, mask })
+        }
+        b'f' => Some(Line::Format {
+            sectors: one(rest)?,
+        }),
         _ => None,
     }
 }
@@ -129,8 +89,6 @@ fn command(first: char, rest: &[u8]) -> Option<Line>
 pub fn read_line(line: &[u8]) -> Option<Line>
     ensures { MatchOption result ((x : Line) → Says line.now x → ⊥) (Says line.now) }
 {
-    let [first, rest @ ..] = line else {
-        return None;
-    };
-    command(char::from(*first), rest)
+    let (first, rest) = line.split_first()?;
+    command(*first, rest)
 }

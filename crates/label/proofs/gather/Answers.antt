@@ -11,7 +11,7 @@ returns-in_err-take c =
     let field = c.in_ok-field.field in
     let old = c.loop-field.found in
     let i = here page inv.0 c.loop-field.at old field inv.1 c.in_ok-field.ensures.1 in
-    let a = again page inv.0 c.in_err-take.field-0.0 old c.take.new.self field i inv.1.says c.in_err-take.ensures in
+    let a = again page inv.0 c.loop-field.at c.in_err-take.field-0.0 old c.take.new.self field i inv.1.says inv.1.reached c.in_err-take.ensures in
     let p = err_from_is_err_and c.from_residual-in_err-take.result c.from_residual-in_err-take.ensures.1 in
     rw (p.1, p.2) record { count = inv.0; before = inv.1.before; illegal = a.0; place = a.1 }
 

@@ -1,5 +1,5 @@
 -- Which fault it is; the fields state no other sizes than those that were found.
-use Rattle.std.proofs.Common.{◌≡◌, ℕ, List, subst, arith}
+use Rattle.std.proofs.Common.{◌≡◌, ℕ, List, subst, arith, rules}
 use Rattle.std.proofs.lemmas.Result.{err_from_is_err_and}
 use Rattle.label.specs.declared.Sizes.{Sizes}
 use Rattle.label.specs.declared.found.Found.{Found}
@@ -48,20 +48,25 @@ returns-in-Some c =
     let e = past page g.count _ g.ends g.end in
     stray g.count (omega arith) g.ends (subst (λ from. Stray page from c.in-Some.at) e c.in-Some.ensures)
 
-pub returns-in_default-sizes : goal.returns-in_default-sizes
-returns-in_default-sizes c =
+pub returns-in_err-sizes : goal.returns-in_err-sizes
+returns-in_err-sizes c =
     let page = c.args.page.now in
     let g = c.in_ok-found.ensures in
     let e = past page g.count _ g.ends g.end in
-    sizes g.count (omega arith) g.ends (subst (Blank page) e c.in_default.ensures)
-    (λ x h s. c.in_default-sizes.ensures x (found page g.count _ x g.ends.before g.says h))
-    g.end
+    let p = err_from_is_err_and c.from_residual-in_err-sizes.result c.from_residual-in_err-sizes.ensures.1 in
+    let none : (x : Sizes) → Holds c.in_ok-found.field-0.found x → ⊥ = search rules in
+    let at : c.in_err-sizes.field-0.0.at ≡ c.in_ok-found.field-0.end = search rules in
+    rw (p.1, p.2, at)
+    (sizes g.count (omega arith) g.ends (subst (Blank page) e c.in_default.ensures)
+    (λ x h s. none x (found page g.count _ x g.ends.before g.says h))
+    g.end)
 
 pub returns-then-not-fits : goal.returns-then-not-fits
 returns-then-not-fits c =
     let page = c.args.page.now in
     let g = c.in_ok-found.ensures in
     let e = past page g.count _ g.ends g.end in
+    let holds : Holds c.in_ok-found.field-0.found c.in_ok-sizes.sizes = search rules in
     sizes g.count (omega arith) g.ends (subst (Blank page) e c.in_default.ensures)
-    (λ x h s. c.if-not-fits.ensures (alike _ c.in_ok-found.field-0.found x _ (found page g.count _ x g.ends.before g.says h) c.in-Some-sizes.ensures s))
+    (λ x h s. c.if-not-fits.ensures (alike _ c.in_ok-found.field-0.found x _ (found page g.count _ x g.ends.before g.says h) holds s))
     g.end

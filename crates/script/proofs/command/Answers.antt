@@ -1,12 +1,9 @@
-use Rattle.std.proofs.Common.{rules}
-use Rattle.script.proofs.Lines.{no_plan, no_format, no_letter}
+-- Where the numbers behind a letter are missing, no line is said.
+use Rattle.script.proofs.Lines.{no_plan, no_format}
 use Rattle.script.proofs.command.Goals as goal
 
-pub returns-in-None : goal.returns-in-None
-returns-in-None c = no_plan _ c.args.first c.in-x.is c.in-None.ensures
+pub returns-in_err-step-in-120 : goal.returns-in_err-step-in-120
+returns-in_err-step-in-120 c = rw c.from_residual.ensures (no_plan _ c.args.first c.in-120.is c.in_err-step-in-120.ensures)
 
-pub returns-in-None-one : goal.returns-in-None-one
-returns-in-None-one c = no_format _ c.args.first c.in-f.is c.in-None-one.ensures
-
-pub returns-in_default : goal.returns-in_default
-returns-in_default c = no_letter _ c.args.first (search rules) (search rules)
+pub returns-in_err-one-in-102 : goal.returns-in_err-one-in-102
+returns-in_err-one-in-102 c = rw c.from_residual-in_err-one-in-102.ensures (no_format _ c.args.first c.in-102.is c.in_err-one-in-102.ensures)

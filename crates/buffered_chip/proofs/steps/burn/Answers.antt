@@ -1,5 +1,5 @@
 -- A page of ones with the bytes in it does what the bytes do.
-use Rattle.std.proofs.Common.{◌≡◌, ℕ, ◌+◌, ◌-◌, ◌*◌, ◌%◌, List, length, replicate, ap, ◌∙◌, subst, arith}
+use Rattle.std.proofs.Common.{◌≡◌, ℕ, ◌+◌, ◌-◌, ◌*◌, ◌%◌, List, length, replicate, ◌∙◌, subst, arith, rules}
 use lib.ListN.{length-replicate}
 use Rattle.rows.specs.Rows.{Masked, Placed}
 use Rattle.buffered_chip.proofs.Through.{through}
@@ -13,7 +13,7 @@ returns c =
     let new = c.clear_bits.new.row in
     let at = c.args.at in
     let base = c.args.block.0 * 4096 + (at - at % 512) in
-    let ones : c.fill.new.self ≡ replicate 512 255 = c.fill.ensures.after (λ y h. h) ∙ ap (λ n. replicate n 255) c.requires.page in
+    let ones : c.fill.new.self ≡ replicate 512 255 = search rules in
     let P : List ℕ → Type 0 = λ l. Placed l (at % 512) given buffer in
     let placed = subst P ones c.copy_in.ensures in
     let long : length buffer ≡ 512 = placed.outside.long ∙ length-replicate {A = ℕ} 512 255 in

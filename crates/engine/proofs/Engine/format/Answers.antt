@@ -10,7 +10,7 @@ returns-in_err-write-clause-formats g c =
     let f = c.in_err-write.field-0.0 in
     let out = err_from_is_err_and c.from_residual.result c.from_residual.ensures.1 in
     rw (out.1, out.2)
-    (refused _ _ _ _ _ _ s _ t c.blocks-2.ensures c.in-Some.ensures slice.bytes slice.len c.power_on.ensures f c.in_err-write.ensures.tries)
+    (refused _ _ _ _ _ _ s _ t c.blocks-2.ensures c.in-Some.ensures slice.bytes c.power_on.ensures f c.in_err-write.ensures.tries)
 
 pub returns-clause-formats : goal.returns-clause-formats
 returns-clause-formats g c =
@@ -18,4 +18,4 @@ returns-clause-formats g c =
     let t = g.C.Chip.flash c.write.new.chip in
     let slice = c.as_slice.ensures in
     let done = c.in_ok-write.ensures in
-    accepted _ _ _ _ _ _ s _ t c.blocks-2.ensures c.in-Some.ensures slice.bytes slice.len c.power_on.ensures done.bytes done.tries
+    accepted _ _ _ _ _ _ s _ t c.blocks-2.ensures c.in-Some.ensures slice.bytes c.power_on.ensures done.bytes done.tries
