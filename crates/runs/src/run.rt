@@ -66,7 +66,8 @@ fn serve<'a, C: Chip>(engine: &mut Engine<C>, call: Call<'a>, buffer: &mut [u8])
 }
 
 // Formats the volume and then makes the calls one after another, wherever power fails, each under any ticket number; the
-// answer to each is noted at its place. The buffer is for the pages that are read.
+// answer to each is noted at its place. The buffer is for the pages that are read. There is no heap, so that the caller
+// lends both, and is told how many answers are noted.
 pub fn run_calls<'a, C: Chip>(
     engine: &mut Engine<C>,
     sectors: u16,

@@ -34,6 +34,7 @@ enum Stop {
     Wrong(Fail),
 }
 
+// Whatever was seen to be wrong stops the script.
 impl From<Fail> for Stop {
     fn from(fail: Fail) -> Stop {
         Stop::Wrong(fail)
