@@ -4,8 +4,9 @@ ghost use Rattle.image.specs.Surveys.{Standing};
 
 use chip::Chip;
 use dump::{Hex, RuleLine, SurveyLines};
-use image::{Flaw, Log, examine, find_sector, read_slot, survey_image};
+use image::{Flaw, examine, find_sector, read_slot, survey_image};
 use ring::Sector;
+use ring::layout::Log;
 
 // Prints a line for each written sector, with its slot and the first bytes of its page.
 fn print_sectors<C: Chip>(rt: &HostRuntime, chip: &mut C, log: Log) -> anyhow::Result<()>
