@@ -31,7 +31,7 @@ pub fn survey_image<C: Chip>(chip: &mut C, log: Log) -> Survey
     ensures keeps { C.flash chip.new ≡ C.flash chip.old }
 {
     let layout = log.layout;
-    let booked = layout.cleared / 2;
+    let booked = layout.booked();
     Survey {
         booked,
         begun: layout.begun(),

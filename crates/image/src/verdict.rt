@@ -24,10 +24,7 @@ fn read_layout<C: Chip>(chip: &mut C, sizes: Sizes) -> Result<Layout, Broken>
     ensures keeps { C.flash chip.new ≡ C.flash chip.old }
 {
     match read_tally(chip, sizes.tally) {
-        Ok((booked, begun)) => Ok(Layout {
-            sizes,
-            cleared: 2 * booked + u32::from(begun),
-        }),
+        Ok(cleared) => Ok(Layout { sizes, cleared }),
         Err(Disorder { byte }) => Err(Broken {
             rule: 1,
             place: byte,

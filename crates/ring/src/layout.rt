@@ -1,7 +1,7 @@
 // Where the blocks of the log lie in the ring, and the blocks of the ring on the chip.
 ghost use Rattle.std.specs.Prelude.{◌≡◌, ◌+◌, ◌-◌, ◌*◌, ◌%◌, ◌<◌, ◌≤◌};
 ghost use Rattle.ring.specs.Places.{chip_block, first_block};
-ghost use Rattle.ring.specs.Tally.{begun};
+ghost use Rattle.ring.specs.Tally.{booked, begun};
 ghost use Rattle.ring.specs.Turns.{Shaped, turns_of, Turned};
 
 use crate::RingBlock;
@@ -40,7 +40,14 @@ impl Layout {
         requires { Shaped self.now.sizes self.now.cleared }
         ensures { result ≡ first_block self.now.sizes self.now.cleared }
     {
-        ((self.cleared / 2 + self.cleared % 2) % u32::from(self.sizes.ring)) as u16
+        ((self.booked() + self.cleared % 2) % u32::from(self.sizes.ring)) as u16
+    }
+
+    // How many erases are booked.
+    pub fn booked(&self) -> u32
+        ensures { result ≡ booked self.now.cleared }
+    {
+        self.cleared / 2
     }
 
     // Whether an erase has begun that is not booked yet.

@@ -85,21 +85,10 @@ cleared_is s k c h =
       hit = λ lt. eq-eqb _ 1 (h.rest c (omega arith) (omega arith));
     }
 
-halves : (c : ℕ) → 2 * (c / 2) + cond (eqb (c % 2) 1) 1 0 ≡ c
-halves c =
-    ⊎_elim
-    (λ e. ap (λ x. 2 * (c / 2) + x) (cond-true _ 1 0 (eq-eqb _ 1 e)) ∙ omega (arith, e))
-    (λ ne. ap (λ x. 2 * (c / 2) + x) (cond-false _ 1 0 (ne_eqb _ 1 ne)) ∙ omega (arith, ne))
-    (cases_eq (c % 2) 1)
-
 -- what the bytes of the whole tally tell
-pub told : (s : Flash) (k c : ℕ) → Scanned s (4096 * k) c → Told s k (c / 2) (eqb (c % 2) 1)
-told s k c h =
-    let e = cleared_is s k c h in
-    record {
-      booked = ap booked (sym e);
-      begun = ap begun (sym e);
-      whole = halves c ∙ sym e;
-      most = omega (arith, e, h.most);
-      ordered = λ j d. none_out s (4096 * k) c h k j (omega (arith, d.byte, d.inside)) d;
-    }
+pub told : (s : Flash) (k c : ℕ) → Scanned s (4096 * k) c → Told s k c
+told s k c h = record {
+  whole = sym (cleared_is s k c h);
+  most = omega (arith, h.most);
+  ordered = λ j d. none_out s (4096 * k) c h k j (omega (arith, d.byte, d.inside)) d;
+}

@@ -48,15 +48,14 @@ abbrev pub Advanced : Flash → ℕ → ℕ → Result ℕ Disorder → Type 0
 Advanced s k n (Ok c) = Scanned s n c
 Advanced s k n (Err d) = Out s k d.byte
 
--- the erases that an orderly tally of k blocks tells of: so many booked, and whether one more has begun
-pub record Told (s : Flash) (k b : ℕ) (g : Bool) : Type 0 where
-  pub booked : b ≡ booked (cleared s k)
-  pub begun : g ≡ begun (cleared s k)
-  pub whole : 2 * b + cond g 1 0 ≡ cleared s k
-  pub most : cleared s k ≤ tally_bits k
+-- an orderly tally of k blocks tells of c cleared bits: so it tells how many erases are booked, and whether one more has
+-- begun
+pub record Told (s : Flash) (k c : ℕ) : Type 0 where
+  pub whole : c ≡ cleared s k
+  pub most : c ≤ tally_bits k
   pub ordered : (j : ℕ) → Disordered s k j → ⊥
 
 -- what a read of a tally of k blocks answers
-abbrev pub Tallied : Flash → ℕ → Result (ℕ × Bool) Disorder → Type 0
-Tallied s k (Ok r) = Told s k r.0 r.1
+abbrev pub Tallied : Flash → ℕ → Result ℕ Disorder → Type 0
+Tallied s k (Ok c) = Told s k c
 Tallied s k (Err d) = Out s k d.byte

@@ -1,5 +1,5 @@
 #![tactic(auto)]
-// The reader of a volume's tally: how many erases are booked, and whether one more has begun.
+// The reader of a volume's tally: how many of its bits are cleared.
 ghost use Rattle.std.specs.Prelude.{◌≡◌, ℕ, ◌+◌, ◌*◌, ◌<◌, ◌≤◌, true, length, IfOk};
 ghost use Rattle.chip.specs.Flash.{Flash};
 ghost use Rattle.ring.specs.Tally.{tally_byte};
@@ -68,9 +68,9 @@ fn read_page<C: Chip>(chip: &mut C, page: u16) -> [u8; PAGE]
     )
 }
 
-// Reads the tally of `blocks` blocks: how many erases are booked, and whether one more has begun; or the first byte
-// that is out of order.
-pub fn read_tally<C: Chip>(chip: &mut C, blocks: u16) -> Result<(u32, bool), Disorder>
+// Reads the tally of `blocks` blocks: how many of its bits are cleared, two for each booked erase and one more for an
+// erase that has begun; or the first byte that is out of order.
+pub fn read_tally<C: Chip>(chip: &mut C, blocks: u16) -> Result<u32, Disorder>
     requires { ((C.flash chip.old).on ≡ true) × ((blocks ≤ 8) × (blocks < (C.flash chip.old).blocks)) }
     ensures answers { Tallied (C.flash chip.old) blocks result }
     ensures keeps { C.flash chip.new ≡ C.flash chip.old }
@@ -80,5 +80,5 @@ pub fn read_tally<C: Chip>(chip: &mut C, blocks: u16) -> Result<(u32, bool), Dis
         let bytes = read_page(chip, page);
         cleared = add_page(cleared, &bytes, PAGE as u16 * page)?;
     }
-    Ok((cleared / 2, cleared % 2 == 1))
+    Ok(cleared)
 }

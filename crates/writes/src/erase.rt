@@ -16,7 +16,7 @@ fn erase_oldest<C: Chip>(chip: &mut C, layout: Layout) -> Result<(), Fault>
     requires { Shaped layout.sizes layout.cleared }
     ensures { Answers (erasing (chip_block layout.sizes (oldest layout.sizes layout.cleared))) (C.flash chip.old) result (C.flash chip.new) }
 {
-    let oldest = RingBlock((layout.cleared / 2 % u32::from(layout.sizes.ring)) as u16);
+    let oldest = RingBlock((layout.booked() % u32::from(layout.sizes.ring)) as u16);
     chip.erase(layout.chip_block(oldest))
 }
 

@@ -1,22 +1,14 @@
 -- The tally's bits make the layout, and its first disorder is the breach of the first rule.
-use Rattle.std.proofs.Common.{◌≡◌, ℕ, ◌+◌, ◌*◌, Bool, true, false, cond, refl, ap, ◌∙◌}
-use mir.Val.{bool_byte}
+use Rattle.std.proofs.Common.{refl}
 use Rattle.ring.specs.Rules as rules
 use Rattle.image.proofs.Breaches.{of_tally}
 use Rattle.image.proofs.Joining.{kept_first, lowest_first}
 use Rattle.image.proofs.verdict.read_layout.Goals as goal
 
-as_number : (g : Bool) → bool_byte g ≡ cond {A = ℕ} g 1 0
-as_number true = refl
-as_number false = refl
-
 pub returns-in-Ok : goal.returns-in-Ok
 returns-in-Ok g c =
     let told = c.in-Ok.ensures.answers in
-    record {
-      laid = (refl, ap (λ n. 2 * c.in-Ok.booked + n) (c.from.ensures ∙ as_number c.in-Ok.begun) ∙ told.whole, kept_first _ 1 (of_tally _ _ _) told.ordered);
-      keeps = c.in-Ok.ensures.keeps;
-    }
+    record { laid = (refl, told.whole, kept_first _ 1 (of_tally _ _ _) told.ordered); keeps = c.in-Ok.ensures.keeps }
 
 pub returns-in-Err : goal.returns-in-Err
 returns-in-Err g c =
