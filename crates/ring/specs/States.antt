@@ -18,6 +18,6 @@ byte_of CopyFilled = 159
 byte_of CopyClosed = 143
 
 -- what flags say: a state, or that they are not legal
-abbrev pub Decodes : ℕ → Result State Illegal → Type 0
-Decodes flags (Ok state) = byte_of state ≡ flags
-Decodes flags (Err x) = legal flags ≡ false
+abbrev pub StateOf : ℕ → Result State Illegal → Type 0
+StateOf flags (Ok state) = byte_of state ≡ flags
+StateOf flags (Err x) = legal flags ≡ false

@@ -2,7 +2,7 @@
 ghost use Rattle.std.specs.Prelude.{◌≡◌};
 ghost use Rattle.ring.specs.Logs.{closes, ends, is_copy, unclosed_copy};
 ghost use Rattle.ring.specs.Rules.{legal, numbered, unfilled};
-ghost use Rattle.ring.specs.States.{byte_of, Decodes};
+ghost use Rattle.ring.specs.States.{byte_of, StateOf};
 
 // What a slot is, by its flags.
 #[derive(Clone, Copy, PartialEq, Eq, Debug)]
@@ -28,7 +28,7 @@ pub struct Illegal(pub u8);
 impl TryFrom<u8> for State {
     type Error = Illegal;
 
-    ghost try_from_gives = { Decodes };
+    ghost try_from_gives = { StateOf };
 
     fn try_from(flags: u8) -> Result<State, Illegal> {
         match flags {

@@ -1,8 +1,8 @@
 -- One byte more of a tally, and what is known at its end.
-use Rattle.std.proofs.Common.{◌≡◌, ℕ, ◌+◌, ◌-◌, ◌*◌, ◌/◌, ◌%◌, ◌^◌, ◌<◌, ◌≤◌, cond, eqb, ◌⊎◌, sym, ap, ◌∙◌, ⊎_elim, arith}
-use Rattle.std.proofs.lemmas.Bool.{cases_lt, cases_eq, lt-ltb, le-ltb, eq-eqb, ne_eqb, cond-true, cond-false}
+use Rattle.std.proofs.Common.{◌≡◌, ℕ, ◌+◌, ◌-◌, ◌*◌, ◌/◌, ◌%◌, ◌^◌, ◌<◌, ◌≤◌, ◌⊎◌, sym, ap, ◌∙◌, ⊎_elim, arith}
+use Rattle.std.proofs.lemmas.Bool.{cases_lt, lt-ltb, le-ltb, eq-eqb, ne_eqb, cond-true, cond-false}
 use Rattle.chip.specs.Flash.{Flash}
-use Rattle.ring.specs.Tally.{tally_byte, tally_bit, tally_bits, cleared, booked, begun}
+use Rattle.ring.specs.Tally.{tally_byte, tally_bit, tally_bits, cleared}
 use Rattle.ring.specs.Rules.{Disordered}
 use Rattle.ring.proofs.Searching.{least_unique}
 use Rattle.tally.specs.Counts.{bit_of, Front, Jumbled, Scanned, Out, Told}

@@ -1,7 +1,7 @@
 -- What is counted of a tally: in one byte, up to a byte, and in all.
-use Rattle.std.specs.Prelude.{◌≡◌, ℕ, ◌+◌, ◌-◌, ◌*◌, ◌/◌, ◌%◌, ◌^◌, ◌<◌, ◌≤◌, Bool, cond, List, length, Some, None, Ok, Err, Option, Result, nat_lt, slice_index}
+use Rattle.std.specs.Prelude.{◌≡◌, ℕ, ◌+◌, ◌-◌, ◌*◌, ◌/◌, ◌%◌, ◌^◌, ◌<◌, ◌≤◌, cond, List, length, Some, None, Ok, Err, Option, Result, nat_lt, slice_index}
 use Rattle.chip.specs.Flash.{Flash}
-use Rattle.ring.specs.Tally.{tally_byte, tally_bit, tally_bits, cleared, booked, begun}
+use Rattle.ring.specs.Tally.{tally_byte, tally_bit, tally_bits, cleared}
 use Rattle.ring.specs.Rules.{Disordered}
 use Rattle.tally.specs.declared.Disorder.{Disorder}
 
