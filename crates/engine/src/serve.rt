@@ -8,7 +8,8 @@ use crate::memory::{Batch, Started};
 use crate::refusal::Refusal;
 use chip::{Chip, PAGE};
 use ring::Sector;
-use ring::layout::Log;
+use ring::directory::SLOTS;
+use ring::layout::{Log, TALLY_BITS};
 
 // Whether a log fits the chip that it should be on. It asks for nothing that a chip would have to read.
 fn fits<C: Chip>(chip: &C, log: Log) -> bool
@@ -17,9 +18,9 @@ fn fits<C: Chip>(chip: &C, log: Log) -> bool
     let sizes = log.layout.sizes;
     chip.power()
         && sizes.fits(chip.blocks())
-        && log.layout.cleared <= 32768 * u32::from(sizes.tally)
+        && log.layout.cleared <= TALLY_BITS * u32::from(sizes.tally)
         && log.layout.cleared % 2 == 0
-        && log.claimed <= 7 * sizes.ring
+        && log.claimed <= SLOTS * sizes.ring
 }
 
 // The open batch, if it has this ticket.

@@ -35,7 +35,7 @@ pub fn range_is_over<C: Chip, const N: usize>(
     is_over(&above, &below)
 }
 
-// The bytes of a page that are compared at a time.
+// The bytes of a page that are compared at a time: both pages whole would take a kibibyte of memory.
 const CHUNK: usize = 64;
 
 // The same of two pages.

@@ -4,7 +4,8 @@ ghost use Rattle.image.specs.Flaws.{label_flaw, rule_flaw};
 
 use label::LabelFault;
 
-// A broken rule, and its place: a byte of the tally, a ring block, or a slot.
+// A broken rule, and its place: a byte of the tally, a ring block, or a slot. The rule is a number and no enum: it is
+// printed as such, and the checks promise the lowest one that is broken.
 #[derive(Clone, Copy, PartialEq, Eq, Debug)]
 pub struct Broken {
     pub rule: u8,

@@ -67,7 +67,7 @@ pub fn read_slot<C: Chip>(chip: &mut C, log: Log, slot: Slot, into: &mut [u8])
 }
 
 // Fills a page with what a sector holds in the first slots, as many as the log holds for claimed, and says whether it
-// holds something; if not, the page is all ones.
+// holds something; if not, the page is all ones. No Option of a page: the buffer is the caller's, and is told of both ways.
 pub fn read_sector<C: Chip>(chip: &mut C, log: Log, sector: Sector, into: &mut [u8]) -> bool
     requires { (Bounded (C.flash chip.old) log) × (length into.old ≡ 512) }
     ensures shown { Shown (C.flash chip.old) log sector.0 result into.new }

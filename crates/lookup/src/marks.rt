@@ -5,7 +5,7 @@ ghost use Rattle.lookup.specs.Bits.{marked, Added};
 
 use crate::walk::Visit;
 
-// The words of the set: enough for 28,672 numbers, one for each slot of the largest ring.
+// The words of the set: enough for 28,672 numbers, one for each slot of the largest ring. An array, since there is no heap.
 const WORDS: usize = 448;
 
 // The numbers that are marked.

@@ -94,6 +94,8 @@ impl State {
     }
 }
 
+// The same by the flags as they are read, which on any flash may be no state's; each is asked where a byte is at hand.
+
 // Whether a slot may have these flags.
 pub fn is_legal(flags: u8) -> bool
     ensures { result ≡ legal flags }

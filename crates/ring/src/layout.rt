@@ -8,6 +8,9 @@ use crate::RingBlock;
 use chip::Block;
 use label::Sizes;
 
+// The bits of a block of the tally.
+pub const TALLY_BITS: u32 = 32768;
+
 // The sizes of a volume, and how many bits of its tally are cleared.
 #[derive(Clone, Copy)]
 pub struct Layout {
@@ -15,7 +18,9 @@ pub struct Layout {
     pub cleared: u32,
 }
 
-// Where a log stands: the layout of its ring, and how many slots are claimed.
+// Where a log stands: the layout of its ring, and how many slots are claimed. That a chip is ready for a layout, and what a
+// log says of a chip, stands in the contracts: it is true of both together. A struct over the lent chip could say it, but
+// then each call would have to promise that layout and log stay as they are, a clause for a clause.
 #[derive(Clone, Copy)]
 pub struct Log {
     pub layout: Layout,

@@ -6,7 +6,7 @@ ghost use Rattle.upkeep.specs.Roomy.{RoomMade, RoomStands};
 use crate::reclaims::reclaim;
 use chip::{Chip, Fault};
 use ring::directory::SLOTS;
-use ring::layout::Log;
+use ring::layout::{Log, TALLY_BITS};
 
 // Whether there is room, or the tally has no bits left to make it; and where the log then stands. No `Result`: both ways
 // end well for the chip and hand on a log, and `?` hands on a cut alone.
@@ -16,9 +16,6 @@ pub enum Room {
     Spent(Log),
 }
 
-// The bits of a block of the tally.
-const BITS: u32 = 32768;
-
 // Reclaims while fewer than so many slots are unclaimed.
 pub fn make_room<C: Chip>(chip: &mut C, log: Log, slots: u16) -> Result<Room, Fault>
     requires { (Bounded (C.flash chip.old) log) × (log.layout.cleared % 2 ≡ 0) }
@@ -27,7 +24,7 @@ pub fn make_room<C: Chip>(chip: &mut C, log: Log, slots: u16) -> Result<Room, Fa
 {
     let mut log = log;
     while SLOTS * log.layout.turns() - log.claimed < slots {
-        if log.layout.cleared >= BITS * u32::from(log.layout.sizes.tally) {
+        if log.layout.cleared >= TALLY_BITS * u32::from(log.layout.sizes.tally) {
             return Ok(Room::Spent(log));
         }
         log = reclaim(chip, log)?;

@@ -1,7 +1,8 @@
 // Tickets: who holds one may put into the batch that it was given for, and must close or drop it.
 ghost use Rattle.std.specs.Prelude.{◌≡◌};
 
-// A ticket for an open batch; 0 is the number of one that is spent.
+// A ticket for an open batch; 0 is the number of one that is spent. No Option: only a proof asks whether it is spent, and
+// no batch has the number 0.
 pub struct Ticket {
     number: u32,
 }

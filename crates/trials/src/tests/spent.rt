@@ -72,7 +72,7 @@ fn the_last_erase_is_booked(rt: HostRuntime) -> Result<(), Fail> {
     Ok(())
 }
 
-// Goes on until the tally is spent; tells whether a step was cut.
+// Goes on until the tally is spent; tells whether a step was cut. A flag and no error: a cut is counted, and the run goes on.
 fn write_on<C: Chip>(engine: &mut Engine<C>) -> Result<bool, Fail> {
     engine.start()?;
     for _ in 0..4 {
@@ -86,7 +86,7 @@ fn write_on<C: Chip>(engine: &mut Engine<C>) -> Result<bool, Fail> {
     Err(Fail::new("the tally is not spent"))
 }
 
-// Cuts the last erase, or another step, and then goes on.
+// Cuts the last erase, or another step, and then goes on; tells whether one was cut, as `write_on` does.
 fn cut_last(rt: &impl Abort, image: &mut [u8], step: u32, mask: u8) -> Result<bool, Fail> {
     spend(rt, image, 3)?;
     let mut engine = Engine::new(Bench::new(image, 1, Plan { step, mask }));
