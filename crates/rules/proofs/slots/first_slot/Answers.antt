@@ -1,6 +1,5 @@
 -- The first slot is in the first block that has one; a block that has none is passed, as is the one without a turn.
 use Rattle.std.proofs.Common.{Some, None, ap, ◌∙◌, subst}
-use Rattle.rules.specs.Breaches.{Breaks}
 use Rattle.rules.specs.Firsts.{FirstAtTurn}
 use Rattle.rules.proofs.Going.{first_slot, clear_turn, clear_skip}
 use Rattle.rules.proofs.slots.first_slot.Goals as goal
@@ -16,7 +15,7 @@ returns-in-Some-first_at_turn g c =
     record {
       first =
           first_slot z k _ c.loop-b.b c.in-Some.turn j c.requires.ready.shaped c.in-Some.ensures
-          (subst (λ s. FirstAtTurn (Breaks s z k c.args.rule) c.in-Some.turn (Some j)) same found.first)
+          (subst (λ s. FirstAtTurn (g.R.Rule.breach c.args.rule s z k) c.in-Some.turn (Some j)) same found.first)
           c.loop-b.invariant.1;
       keeps = found.keeps ∙ same;
     }
@@ -31,7 +30,7 @@ loop-b-preserved g c =
           let none = w.in_default-first_at_turn.ensures in (
             ap g.C.Chip.flash w.chip-is ∙ none.keeps ∙ same,
             clear_turn z k _ c.loop-b.b w.in-Some.turn c.requires.ready.shaped w.in-Some.ensures
-                (subst (λ s. FirstAtTurn (Breaks s z k c.args.rule) w.in-Some.turn None) same none.first)
+                (subst (λ s. FirstAtTurn (g.R.Rule.breach c.args.rule s z k) w.in-Some.turn None) same none.first)
                 c.loop-b.invariant.1,
           )
       | in_default w ↦ (ap g.C.Chip.flash w.chip-is ∙ same, clear_skip z k _ c.loop-b.b w.in_default.ensures c.loop-b.invariant.1)
