@@ -1,13 +1,11 @@
 // The rules that each slot of the log keeps by itself, and the first slot that breaks one.
-ghost use Rattle.std.specs.Prelude.{◌≡◌, ℕ, ⊤, ◌/◌, ◌<◌, ◌≤◌, true};
-ghost use Rattle.chip.specs.Flash.{Flash};
+ghost use Rattle.std.specs.Prelude.{◌≡◌, ℕ, ◌/◌, ◌<◌, ◌≤◌, true};
 ghost use Rattle.chip.specs.Ranges.{Tells};
-ghost use Rattle.label.specs.declared.Sizes.{Sizes};
 ghost use Rattle.ring.specs.Logs.{claimed as claimed_of};
 ghost use Rattle.ring.specs.Places.{slot_at};
 ghost use Rattle.ring.specs.Rules.{At, Illegal, Unclean, Misplaced, Beyond, numbered};
 ghost use Rattle.ring.specs.Turns.{Ready, turns_of};
-ghost use Rattle.rules.specs.Breaches.{Shows};
+ghost use Rattle.rules.specs.Breaches.{Asked};
 ghost use Rattle.rules.specs.Firsts.{FirstSlot, FirstAtTurn};
 
 use crate::order::is_misplaced;
@@ -18,108 +16,16 @@ use ring::directory::{Descriptor, SLOTS};
 use ring::flags::{is_legal, is_numbered};
 use ring::layout::{Layout, Log};
 use ring::{Position, RingBlock, Slot};
+use std::marker::Brand;
 
-// A rule about slots.
-trait Rule: Copy {
-    // What breaks it at a position of the log.
-    ghost breach: { Self → Flash → Sizes → ℕ → ℕ → Type 0 };
-
-    // What it knows of the log.
-    ghost knows: { Self → Flash → Sizes → ℕ → Type 0 } = { λ _ _ _ _. ⊤ };
-
-    // Whether the slot at a position, of a block with these descriptors, breaks it.
-    fn is_broken<C: Chip>(
-        self,
-        chip: &mut C,
-        layout: Layout,
-        at: Position,
-        slots: &[Descriptor],
-    ) -> bool
-        requires ready { Ready (C.flash chip.old) layout.sizes layout.cleared }
-        requires knows { knows self (C.flash chip.old) layout.sizes layout.cleared }
-        requires shows { Shows (C.flash chip.old) layout.sizes layout.cleared (at.0 / 7) slots.now }
-        ensures tells { Tells result (breach self (C.flash chip.old) layout.sizes layout.cleared at.0) }
-        ensures keeps { C.flash chip.new ≡ C.flash chip.old };
+// A property of positions of the log, for proofs alone: a search's caller names the one that its test tells.
+trait Property {
+    ghost holds: { ℕ → Type 0 };
 }
 
-// The flags are legal.
-#[derive(Clone, Copy)]
-struct Legal;
-
-impl Rule for Legal {
-    ghost breach = { λ _. Illegal };
-
-    fn is_broken<C: Chip>(
-        self,
-        _chip: &mut C,
-        _layout: Layout,
-        at: Position,
-        slots: &[Descriptor],
-    ) -> bool {
-        !is_legal(slots[at.index()].flags)
-    }
-}
-
-// Behind so many claimed slots, all is erased.
-#[derive(Clone, Copy)]
-struct Clean {
-    claimed: u16,
-}
-
-impl Rule for Clean {
-    ghost breach = { λ _. Unclean };
-
-    ghost knows = { λ rule s z c. rule.claimed ≡ claimed_of s z c };
-
-    fn is_broken<C: Chip>(
-        self,
-        chip: &mut C,
-        layout: Layout,
-        at: Position,
-        _slots: &[Descriptor],
-    ) -> bool {
-        is_unclean(chip, layout, self.claimed, at)
-    }
-}
-
-// Of so many claimed slots, each is filled before the next, and a copy is not inside a group.
-#[derive(Clone, Copy)]
-struct Ordered {
-    claimed: u16,
-}
-
-impl Rule for Ordered {
-    ghost breach = { λ _. Misplaced };
-
-    ghost knows = { λ rule s z c. rule.claimed ≡ claimed_of s z c };
-
-    fn is_broken<C: Chip>(
-        self,
-        chip: &mut C,
-        layout: Layout,
-        at: Position,
-        slots: &[Descriptor],
-    ) -> bool {
-        is_misplaced(chip, layout, self.claimed, at, slots)
-    }
-}
-
-// The sector number is one of the volume's.
-#[derive(Clone, Copy)]
-struct InRange;
-
-impl Rule for InRange {
-    ghost breach = { λ _. Beyond };
-
-    fn is_broken<C: Chip>(
-        self,
-        _chip: &mut C,
-        layout: Layout,
-        at: Position,
-        slots: &[Descriptor],
-    ) -> bool {
-        is_beyond(slots[at.index()], layout.sizes.sectors)
-    }
+// The caller's proof puts its own in place of this one.
+impl Property for Brand {
+    ghost holds = { λ _. ⊥ };
 }
 
 // Whether a slot has a sector number that is too large.
@@ -129,33 +35,45 @@ fn is_beyond(slot: Descriptor, sectors: u16) -> bool
     is_numbered(slot.flags) && slot.sector.0 >= sectors
 }
 
-// The first slot of the block at a turn of the log that breaks a rule.
-fn first_at_turn<C: Chip, R: Rule>(chip: &mut C, layout: Layout, rule: R, turn: u16) -> Option<u16>
+// The first slot of the block at a turn of the log at whose position a test says yes.
+fn first_at_turn<C: Chip, P: Property, T: Fn(&mut C, Position, &[Descriptor]) -> bool>(
+    chip: &mut C,
+    layout: Layout,
+    test: &T,
+    turn: u16,
+) -> Option<u16>
     requires ready { Ready (C.flash chip.old) layout.sizes layout.cleared }
-    requires knows { R.knows rule (C.flash chip.old) layout.sizes layout.cleared }
+    requires may { (on : _) (at : _) (slots : _) → Asked (C.flash chip.old) layout.sizes layout.cleared (C.flash on.now) at.0 slots.now → T.pre test.now on at slots }
+    requires tells { (on : _) (at : _) (slots : _) (answer : _) (left : _) → Asked (C.flash chip.old) layout.sizes layout.cleared (C.flash on.now) at.0 slots.now → T.post test.now on at slots answer left → Tells answer (P.holds at.0) × (C.flash left.now ≡ C.flash chip.old) }
     requires inside { turn < turns_of layout.sizes layout.cleared }
-    ensures first { FirstAtTurn (R.breach rule (C.flash chip.old) layout.sizes layout.cleared) turn result }
+    ensures first { FirstAtTurn P.holds turn result }
     ensures keeps { C.flash chip.new ≡ C.flash chip.old }
 {
     let slots = read_turn(chip, layout, turn);
     for j in 0..SLOTS {
-        if rule.is_broken(chip, layout, Position(SLOTS * turn + j), &slots) {
+        if test(chip, Position(SLOTS * turn + j), &slots) {
             return Some(j);
         }
     }
     None
 }
 
-// The first slot around the ring that breaks a rule. A block that is being erased has no turn, so it breaks none.
-fn first_slot<C: Chip, R: Rule>(chip: &mut C, layout: Layout, rule: R) -> Option<Slot>
+// The first slot around the ring at whose position a test says yes. A block that is being erased has no turn, so no
+// position lies in it.
+fn first_slot<C: Chip, P: Property, T: Fn(&mut C, Position, &[Descriptor]) -> bool>(
+    chip: &mut C,
+    layout: Layout,
+    test: T,
+) -> Option<Slot>
     requires ready { Ready (C.flash chip.old) layout.sizes layout.cleared }
-    requires knows { R.knows rule (C.flash chip.old) layout.sizes layout.cleared }
-    ensures first { FirstSlot (At layout.sizes layout.cleared (slot_at layout.sizes layout.cleared) (R.breach rule (C.flash chip.old) layout.sizes layout.cleared)) result }
+    requires may { (on : _) (at : _) (slots : _) → Asked (C.flash chip.old) layout.sizes layout.cleared (C.flash on.now) at.0 slots.now → T.pre test on at slots }
+    requires tells { (on : _) (at : _) (slots : _) (answer : _) (left : _) → Asked (C.flash chip.old) layout.sizes layout.cleared (C.flash on.now) at.0 slots.now → T.post test on at slots answer left → Tells answer (P.holds at.0) × (C.flash left.now ≡ C.flash chip.old) }
+    ensures first { FirstSlot (At layout.sizes layout.cleared (slot_at layout.sizes layout.cleared) P.holds) result }
     ensures keeps { C.flash chip.new ≡ C.flash chip.old }
 {
     for b in 0..layout.sizes.ring {
         if let Some(turn) = layout.turn_of(RingBlock(b)) {
-            if let Some(j) = first_at_turn(chip, layout, rule, turn) {
+            if let Some(j) = first_at_turn::<C, P, T>(chip, layout, &test, turn) {
                 return Some(Slot(SLOTS * b + j));
             }
         }
@@ -169,7 +87,11 @@ pub fn illegal_slot<C: Chip>(chip: &mut C, layout: Layout) -> Option<Slot>
     ensures first { FirstSlot (At layout.sizes layout.cleared (slot_at layout.sizes layout.cleared) (Illegal (C.flash chip.old) layout.sizes layout.cleared)) result }
     ensures keeps { C.flash chip.new ≡ C.flash chip.old }
 {
-    first_slot(chip, layout, Legal)
+    first_slot::<C, Brand, _>(
+        chip,
+        layout,
+        |_, at, slots| !is_legal(slots[at.index()].flags),
+    )
 }
 
 // The first slot behind the `claimed` ones that is not erased.
@@ -179,7 +101,11 @@ pub fn unclean_slot<C: Chip>(chip: &mut C, log: Log) -> Option<Slot>
     ensures first { FirstSlot (At log.layout.sizes log.layout.cleared (slot_at log.layout.sizes log.layout.cleared) (Unclean (C.flash chip.old) log.layout.sizes log.layout.cleared)) result }
     ensures keeps { C.flash chip.new ≡ C.flash chip.old }
 {
-    first_slot(chip, log.layout, Clean { claimed: log.claimed })
+    first_slot::<C, Brand, _>(
+        chip,
+        log.layout,
+        |chip, at, _| is_unclean(chip, log.layout, log.claimed, at),
+    )
 }
 
 // The first of the `claimed` slots that is out of order.
@@ -189,7 +115,11 @@ pub fn misplaced_slot<C: Chip>(chip: &mut C, log: Log) -> Option<Slot>
     ensures first { FirstSlot (At log.layout.sizes log.layout.cleared (slot_at log.layout.sizes log.layout.cleared) (Misplaced (C.flash chip.old) log.layout.sizes log.layout.cleared)) result }
     ensures keeps { C.flash chip.new ≡ C.flash chip.old }
 {
-    first_slot(chip, log.layout, Ordered { claimed: log.claimed })
+    first_slot::<C, Brand, _>(
+        chip,
+        log.layout,
+        |chip, at, slots| is_misplaced(chip, log.layout, log.claimed, at, slots),
+    )
 }
 
 // The first slot whose sector number is not one of the volume's.
@@ -198,5 +128,9 @@ pub fn beyond_slot<C: Chip>(chip: &mut C, layout: Layout) -> Option<Slot>
     ensures first { FirstSlot (At layout.sizes layout.cleared (slot_at layout.sizes layout.cleared) (Beyond (C.flash chip.old) layout.sizes layout.cleared)) result }
     ensures keeps { C.flash chip.new ≡ C.flash chip.old }
 {
-    first_slot(chip, layout, InRange)
+    first_slot::<C, Brand, _>(
+        chip,
+        layout,
+        |_, at, slots| is_beyond(slots[at.index()], layout.sizes.sectors),
+    )
 }
