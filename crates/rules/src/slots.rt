@@ -1,11 +1,11 @@
 // The rules that each slot of the log keeps by itself, and the first slot that breaks one.
-ghost use Rattle.std.specs.Prelude.{◌≡◌, ◌/◌, ◌<◌, ◌≤◌, true};
+ghost use Rattle.std.specs.Prelude.{◌≡◌, ℕ, ◌/◌, ◌<◌, ◌≤◌, true};
 ghost use Rattle.chip.specs.Ranges.{Tells};
 ghost use Rattle.ring.specs.Logs.{claimed as claimed_of};
 ghost use Rattle.ring.specs.Places.{slot_at};
 ghost use Rattle.ring.specs.Rules.{At, Illegal, Unclean, Misplaced, Beyond, numbered};
 ghost use Rattle.ring.specs.Turns.{Ready, turns_of};
-ghost use Rattle.rules.specs.Breaches.{Breaks, Knows, Shows};
+ghost use Rattle.rules.specs.Breaches.{Asked};
 ghost use Rattle.rules.specs.Firsts.{FirstSlot, FirstAtTurn};
 
 use crate::order::is_misplaced;
@@ -16,18 +16,16 @@ use ring::directory::{Descriptor, SLOTS};
 use ring::flags::{is_legal, is_numbered};
 use ring::layout::{Layout, Log};
 use ring::{Position, RingBlock, Slot};
+use std::marker::Brand;
 
-// A rule about slots.
-#[derive(Clone, Copy)]
-enum Rule {
-    // The flags are legal.
-    Legal,
-    // Behind so many claimed slots, all is erased.
-    Clean(u16),
-    // Of so many claimed slots, each is filled before the next, and a copy is not inside a group.
-    Ordered(u16),
-    // The sector number is one of the volume's.
-    InRange,
+// A property of positions of the log, for proofs alone: a search's caller names the one that its test tells.
+trait Property {
+    ghost holds: { ℕ → Type 0 };
+}
+
+// The caller's proof puts its own in place of this one.
+impl Property for Brand {
+    ghost holds = { λ _. ⊥ };
 }
 
 // Whether a slot has a sector number that is too large.
@@ -37,56 +35,45 @@ fn is_beyond(slot: Descriptor, sectors: u16) -> bool
     is_numbered(slot.flags) && slot.sector.0 >= sectors
 }
 
-// Whether the slot at a position, of a block with these descriptors, breaks a rule.
-fn breaks<C: Chip>(
+// The first slot of the block at a turn of the log at whose position a test says yes.
+fn first_at_turn<C: Chip, P: Property, T: Fn(&mut C, Position, &[Descriptor]) -> bool>(
     chip: &mut C,
     layout: Layout,
-    rule: Rule,
-    at: Position,
-    slots: &[Descriptor],
-) -> bool
+    test: &T,
+    turn: u16,
+) -> Option<u16>
     requires ready { Ready (C.flash chip.old) layout.sizes layout.cleared }
-    requires knows { Knows (C.flash chip.old) layout.sizes layout.cleared rule }
-    requires shows { Shows (C.flash chip.old) layout.sizes layout.cleared (at.0 / 7) slots.now }
-    ensures tells { Tells result (Breaks (C.flash chip.old) layout.sizes layout.cleared rule at.0) }
-    ensures keeps { C.flash chip.new ≡ C.flash chip.old }
-{
-    let slot = slots[at.index()];
-    match rule {
-        Rule::Legal => !is_legal(slot.flags),
-        Rule::Clean(claimed) => is_unclean(chip, layout, claimed, at),
-        Rule::Ordered(claimed) => is_misplaced(chip, layout, claimed, at, slots),
-        Rule::InRange => is_beyond(slot, layout.sizes.sectors),
-    }
-}
-
-// The first slot of the block at a turn of the log that breaks a rule.
-fn first_at_turn<C: Chip>(chip: &mut C, layout: Layout, rule: Rule, turn: u16) -> Option<u16>
-    requires ready { Ready (C.flash chip.old) layout.sizes layout.cleared }
-    requires knows { Knows (C.flash chip.old) layout.sizes layout.cleared rule }
+    requires may { (on : _) (at : _) (slots : _) → Asked (C.flash chip.old) layout.sizes layout.cleared (C.flash on.now) at.0 slots.now → T.pre test.now on at slots }
+    requires tells { (on : _) (at : _) (slots : _) (answer : _) (left : _) → Asked (C.flash chip.old) layout.sizes layout.cleared (C.flash on.now) at.0 slots.now → T.post test.now on at slots answer left → Tells answer (P.holds at.0) × (C.flash left.now ≡ C.flash chip.old) }
     requires inside { turn < turns_of layout.sizes layout.cleared }
-    ensures first { FirstAtTurn (Breaks (C.flash chip.old) layout.sizes layout.cleared rule) turn result }
+    ensures first { FirstAtTurn P.holds turn result }
     ensures keeps { C.flash chip.new ≡ C.flash chip.old }
 {
     let slots = read_turn(chip, layout, turn);
     for j in 0..SLOTS {
-        if breaks(chip, layout, rule, Position(SLOTS * turn + j), &slots) {
+        if test(chip, Position(SLOTS * turn + j), &slots) {
             return Some(j);
         }
     }
     None
 }
 
-// The first slot around the ring that breaks a rule. A block that is being erased has no turn, so it breaks none.
-fn first_slot<C: Chip>(chip: &mut C, layout: Layout, rule: Rule) -> Option<Slot>
+// The first slot around the ring at whose position a test says yes. A block that is being erased has no turn, so no
+// position lies in it.
+fn first_slot<C: Chip, P: Property, T: Fn(&mut C, Position, &[Descriptor]) -> bool>(
+    chip: &mut C,
+    layout: Layout,
+    test: T,
+) -> Option<Slot>
     requires ready { Ready (C.flash chip.old) layout.sizes layout.cleared }
-    requires knows { Knows (C.flash chip.old) layout.sizes layout.cleared rule }
-    ensures first { FirstSlot (At layout.sizes layout.cleared (slot_at layout.sizes layout.cleared) (Breaks (C.flash chip.old) layout.sizes layout.cleared rule)) result }
+    requires may { (on : _) (at : _) (slots : _) → Asked (C.flash chip.old) layout.sizes layout.cleared (C.flash on.now) at.0 slots.now → T.pre test on at slots }
+    requires tells { (on : _) (at : _) (slots : _) (answer : _) (left : _) → Asked (C.flash chip.old) layout.sizes layout.cleared (C.flash on.now) at.0 slots.now → T.post test on at slots answer left → Tells answer (P.holds at.0) × (C.flash left.now ≡ C.flash chip.old) }
+    ensures first { FirstSlot (At layout.sizes layout.cleared (slot_at layout.sizes layout.cleared) P.holds) result }
     ensures keeps { C.flash chip.new ≡ C.flash chip.old }
 {
     for b in 0..layout.sizes.ring {
         if let Some(turn) = layout.turn_of(RingBlock(b)) {
-            if let Some(j) = first_at_turn(chip, layout, rule, turn) {
+            if let Some(j) = first_at_turn::<C, P, T>(chip, layout, &test, turn) {
                 return Some(Slot(SLOTS * b + j));
             }
         }
@@ -100,7 +87,11 @@ pub fn illegal_slot<C: Chip>(chip: &mut C, layout: Layout) -> Option<Slot>
     ensures first { FirstSlot (At layout.sizes layout.cleared (slot_at layout.sizes layout.cleared) (Illegal (C.flash chip.old) layout.sizes layout.cleared)) result }
     ensures keeps { C.flash chip.new ≡ C.flash chip.old }
 {
-    first_slot(chip, layout, Rule::Legal)
+    first_slot::<C, Brand, _>(
+        chip,
+        layout,
+        |_, at, slots| !is_legal(slots[at.index()].flags),
+    )
 }
 
 // The first slot behind the `claimed` ones that is not erased.
@@ -110,7 +101,11 @@ pub fn unclean_slot<C: Chip>(chip: &mut C, log: Log) -> Option<Slot>
     ensures first { FirstSlot (At log.layout.sizes log.layout.cleared (slot_at log.layout.sizes log.layout.cleared) (Unclean (C.flash chip.old) log.layout.sizes log.layout.cleared)) result }
     ensures keeps { C.flash chip.new ≡ C.flash chip.old }
 {
-    first_slot(chip, log.layout, Rule::Clean(log.claimed))
+    first_slot::<C, Brand, _>(
+        chip,
+        log.layout,
+        |chip, at, _| is_unclean(chip, log.layout, log.claimed, at),
+    )
 }
 
 // The first of the `claimed` slots that is out of order.
@@ -120,7 +115,11 @@ pub fn misplaced_slot<C: Chip>(chip: &mut C, log: Log) -> Option<Slot>
     ensures first { FirstSlot (At log.layout.sizes log.layout.cleared (slot_at log.layout.sizes log.layout.cleared) (Misplaced (C.flash chip.old) log.layout.sizes log.layout.cleared)) result }
     ensures keeps { C.flash chip.new ≡ C.flash chip.old }
 {
-    first_slot(chip, log.layout, Rule::Ordered(log.claimed))
+    first_slot::<C, Brand, _>(
+        chip,
+        log.layout,
+        |chip, at, slots| is_misplaced(chip, log.layout, log.claimed, at, slots),
+    )
 }
 
 // The first slot whose sector number is not one of the volume's.
@@ -129,5 +128,9 @@ pub fn beyond_slot<C: Chip>(chip: &mut C, layout: Layout) -> Option<Slot>
     ensures first { FirstSlot (At layout.sizes layout.cleared (slot_at layout.sizes layout.cleared) (Beyond (C.flash chip.old) layout.sizes layout.cleared)) result }
     ensures keeps { C.flash chip.new ≡ C.flash chip.old }
 {
-    first_slot(chip, layout, Rule::InRange)
+    first_slot::<C, Brand, _>(
+        chip,
+        layout,
+        |_, at, slots| is_beyond(slots[at.index()], layout.sizes.sectors),
+    )
 }
