@@ -1,5 +1,5 @@
 -- What an open answers, by its checks and the room that is made.
-use Rattle.std.proofs.Common.{◌≡◌, ℕ, ◌+◌, Ok, Err, sym, refl, ap, subst, ⊎_elim}
+use Rattle.std.proofs.Common.{◌≡◌, ℕ, ◌+◌, Ok, Err, refl, ap, subst, ⊎_elim}
 use Rattle.chip.specs.declared.Home.{Home}
 use Rattle.chip.specs.declared.Fault.{Fault}
 use Rattle.chip.specs.declared.Fault.TheVariants as fault
@@ -56,9 +56,9 @@ module _ {n : ℕ} {s : Flash} {m : Memory} {st : Started} (serves : Serves s m 
     pub open_spent : {t : Flash} (room : Room) (log : Log) → room ≡ Spent log → RoomMade s st.log (n + 7) (Ok room) t → Opens n s m (Err refusal.Spent) t (idle m log)
     open_spent {t} room log e h =
         let x = subst (λ (r : Room). RoomMade s st.log (n + 7) (Ok r) t) e h in
-        subst (λ (l : Log). Opens n s m (Err refusal.Spent) t (idle m l)) (sym x.3) (calls.no_bits refl openable x.2)
+        calls.no_bits refl openable x.2 x.3
 
     pub open_done : {t : Flash} (room : Room) (log : Log) → room ≡ Made log → RoomMade s st.log (n + 7) (Ok room) t → Opens n s m (Ok (m.tickets + 1)) t (opened m log n)
     open_done {t} room log e h =
         let x = subst (λ (r : Room). RoomMade s st.log (n + 7) (Ok r) t) e h in
-        subst (λ (l : Log). Opens n s m (Ok (m.tickets + 1)) t (opened m l n)) (sym x.3) (calls.done openable x.2)
+        calls.done openable x.2 x.3

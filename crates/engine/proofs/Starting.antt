@@ -50,5 +50,4 @@ module _ {s a b : Flash} {m : Memory} (woken : a ≡ awake s) (kept : b ≡ a) w
     pub start_done : (new : Log) → Repaired b log (Ok new) t → Starts s m (Ok tt) t (idle m new)
     start_done new h =
         let x = subst (λ (y : Flash). Repaired y log (Ok new) t) (kept ∙ woken) h in
-        subst (λ (l : Log). Starts s m (Ok tt) t (idle m l)) (sym x.4)
-        (calls.done (subst (λ (z : Flash). Sound z log) woken sound) (subst (λ (z : Flash). Bounded z log) woken stands) x.2 x.3)
+        calls.done (subst (λ (z : Flash). Sound z log) woken sound) (subst (λ (z : Flash). Bounded z log) woken stands) x.2 x.3 x.4

@@ -25,7 +25,7 @@ use Rattle.engine.specs.declared.memory.Memory.{Memory}
 use Rattle.engine.specs.declared.refusal.Refusal.{Refusal}
 use Rattle.engine.specs.declared.sector.Report.{Report}
 use Rattle.engine.specs.Refusals.{numbers}
-use Rattle.engine.specs.Memories.{largest_batch, most_tickets, Serves, Stopped, Mine, log_at, sizes_of, cleared_of, claimed_of, halted, idle, opened, one_more}
+use Rattle.engine.specs.Memories.{largest_batch, most_tickets, Serves, Stopped, Mine, At, sizes_of, cleared_of, claimed_of, halted, idle, opened, one_more}
 
 -- a refusal with these numbers: a step was cut at a block with the home h
 abbrev pub CutAt : Refusal → Home → Type 0
@@ -35,7 +35,7 @@ CutAt e h = numbers e ≡ 13 ∷ h.name ∷ h.block ∷ []
 pub data Starts (s : Flash) (m : Memory) : Result (Unit {0}) Refusal → Flash → Memory → Type 0 where
   label : {e : Refusal} {at : ℕ} → numbers e ≡ 10 ∷ at ∷ [] → Faulty (front_page (awake s)) s.blocks at → Starts s m (Err e) (awake s) (halted m)
   rule : {e : Refusal} {rule place : ℕ} → numbers e ≡ 11 ∷ rule ∷ place ∷ [] → Unsound (awake s) rule place → Starts s m (Err e) (awake s) (halted m)
-  done : {log : Log} {plan : List Step} {c : ℕ} {t : Flash} → Sound (awake s) log → Bounded (awake s) log → Repairs (awake s) log.layout.sizes log.layout.cleared log.claimed plan c → Performs plan (awake s) (Ok tt) t → Starts s m (Ok tt) t (idle m (log_at log.layout.sizes c log.claimed))
+  done : {log new : Log} {plan : List Step} {c : ℕ} {t : Flash} → Sound (awake s) log → Bounded (awake s) log → Repairs (awake s) log.layout.sizes log.layout.cleared log.claimed plan c → Performs plan (awake s) (Ok tt) t → At new log.layout.sizes c log.claimed → Starts s m (Ok tt) t (idle m new)
   cut : {e : Refusal} {h : Home} {log : Log} {plan : List Step} {c : ℕ} {t : Flash} → CutAt e h → Sound (awake s) log → Bounded (awake s) log → Repairs (awake s) log.layout.sizes log.layout.cleared log.claimed plan c → Performs plan (awake s) (Err (fault.Cut h)) t → Starts s m (Err e) t (halted m)
 
 -- open: what is asked of a batch of n puts before room is made
@@ -59,9 +59,9 @@ pub data Opens (n : ℕ) (s : Flash) (m : Memory) : Result ℕ Refusal → Flash
   busy : {e : Refusal} {st : Started} {b : Batch} → numbers e ≡ 3 ∷ [] → Serves s m st → st.batch ≡ Some b → Opens n s m (Err e) s m
   count : {e : Refusal} {st : Started} → numbers e ≡ 4 ∷ [] → Serves s m st → st.batch ≡ None → (1 ≤ n → n ≤ largest_batch → ⊥) → Opens n s m (Err e) s m
   no_ticket : {e : Refusal} {st : Started} → numbers e ≡ 8 ∷ [] → Serves s m st → st.batch ≡ None → 1 ≤ n → n ≤ largest_batch → most_tickets ≤ m.tickets → Opens n s m (Err e) s m
-  no_bits : {e : Refusal} {st : Started} {c q : ℕ} {t : Flash} → numbers e ≡ 12 ∷ [] → Openable n s m st → Rooms (n + 7) (sizes_of st) s (cleared_of st) (claimed_of st) (Ok (spent c q)) t → Opens n s m (Err e) t (idle m (log_at (sizes_of st) c q))
+  no_bits : {e : Refusal} {st : Started} {log : Log} {c q : ℕ} {t : Flash} → numbers e ≡ 12 ∷ [] → Openable n s m st → Rooms (n + 7) (sizes_of st) s (cleared_of st) (claimed_of st) (Ok (spent c q)) t → At log (sizes_of st) c q → Opens n s m (Err e) t (idle m log)
   cut : {e : Refusal} {h : Home} {st : Started} {t : Flash} → CutAt e h → Openable n s m st → Rooms (n + 7) (sizes_of st) s (cleared_of st) (claimed_of st) (Err (fault.Cut h)) t → Opens n s m (Err e) t (halted m)
-  done : {st : Started} {c q : ℕ} {t : Flash} → Openable n s m st → Rooms (n + 7) (sizes_of st) s (cleared_of st) (claimed_of st) (Ok (made c q)) t → Opens n s m (Ok (m.tickets + 1)) t (opened m (log_at (sizes_of st) c q) n)
+  done : {st : Started} {log : Log} {c q : ℕ} {t : Flash} → Openable n s m st → Rooms (n + 7) (sizes_of st) s (cleared_of st) (claimed_of st) (Ok (made c q)) t → At log (sizes_of st) c q → Opens n s m (Ok (m.tickets + 1)) t (opened m log n)
 
 -- put: what is asked of a put of a page to the sector x under the ticket n
 pub record Puttable (n x : ℕ) (page : List ℕ) (s : Flash) (m : Memory) (st : Started) (b : Batch) : Type 0 where

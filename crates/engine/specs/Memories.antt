@@ -5,7 +5,7 @@ use Rattle.label.specs.declared.Sizes.{Sizes}
 use Rattle.label.specs.Labels.{Sized}
 use Rattle.ring.specs.Tally.{tally_bits}
 use Rattle.ring.specs.declared.layout.Log.{Log}
-pub use Rattle.upkeep.specs.Numbers.{log_at}
+pub use Rattle.upkeep.specs.Numbers.{At}
 use Rattle.engine.specs.declared.memory.Batch.{Batch}
 use Rattle.engine.specs.declared.memory.Started.{Started}
 use Rattle.engine.specs.declared.memory.Memory.{Memory}
@@ -91,7 +91,7 @@ abbrev pub one_more : Memory → Started → Batch → Memory
 one_more m st b = record {
   tickets = m.tickets;
   started = Some record {
-    log = log_at (sizes_of st) (cleared_of st) (claimed_of st + 1);
+    log = record { layout = st.log.layout; claimed = claimed_of st + 1 };
     batch = Some record { ticket = b.ticket; limit = b.limit; puts = b.puts + 1 };
   };
 }

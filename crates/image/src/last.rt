@@ -3,7 +3,7 @@ ghost use Rattle.std.specs.Prelude.{◌≡◌, ◌+◌, ◌-◌, ◌≤◌, if�
 ghost use Rattle.chip.specs.Ranges.{Tells};
 ghost use Rattle.ring.specs.Logs.{claimed as claimed_of, is_live, log as log_in};
 ghost use Rattle.ring.specs.Places.{positions};
-ghost use Rattle.ring.specs.Turns.{Shaped, Ready};
+ghost use Rattle.ring.specs.Turns.{Ready};
 ghost use Rattle.ring.specs.Rules.{Copying};
 ghost use Rattle.lookup.specs.Answers.{LiveFront};
 ghost use Rattle.image.specs.Checks.{Checked};
@@ -39,7 +39,6 @@ fn is_right_copy<C: Chip>(
 
 // The slots that copies may take: the unclaimed ones, and the one of a copy that is not closed.
 fn spare_slots(log: Log, copying: bool) -> u16
-    requires shaped { Shaped log.layout.sizes log.layout.cleared }
     requires inside { log.claimed ≤ positions log.layout.sizes log.layout.cleared }
     ensures { result ≡ positions log.layout.sizes log.layout.cleared - log.claimed + (if copying then 1 else 0) }
 {

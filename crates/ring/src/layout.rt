@@ -16,6 +16,7 @@ pub const TALLY_BITS: u32 = 32768;
 pub struct Layout {
     pub sizes: Sizes,
     pub cleared: u32,
+    ghost shaped: { Shaped sizes cleared },
 }
 
 // Where a log stands: the layout of its ring, and how many slots are claimed. That a chip is ready for a layout, and what a
@@ -42,7 +43,6 @@ fn turns_between(from: u16, to: u16, ring: u16) -> u16
 impl Layout {
     // The ring block in which the log starts.
     pub fn first_block(&self) -> u16
-        requires { Shaped self.now.sizes self.now.cleared }
         ensures { result ≡ first_block self.now.sizes self.now.cleared }
     {
         ((self.booked() + self.cleared % 2) % u32::from(self.sizes.ring)) as u16
@@ -64,7 +64,6 @@ impl Layout {
 
     // How many blocks the log has: all of the ring, but one that is being erased.
     pub fn turns(&self) -> u16
-        requires { Shaped self.now.sizes self.now.cleared }
         ensures { result ≡ turns_of self.now.sizes self.now.cleared }
     {
         self.sizes.ring - (self.cleared % 2) as u16
@@ -72,7 +71,7 @@ impl Layout {
 
     // The ring block that comes at a turn of the log.
     pub fn block_at_turn(&self, turn: u16) -> RingBlock
-        requires { (Shaped self.now.sizes self.now.cleared) × (turn < self.now.sizes.ring) }
+        requires { turn < self.now.sizes.ring }
         ensures { result.0 ≡ (first_block self.now.sizes self.now.cleared + turn) % self.now.sizes.ring }
     {
         RingBlock((self.first_block() + turn) % self.sizes.ring)
@@ -80,7 +79,7 @@ impl Layout {
 
     // The turn at which a ring block comes, unless it is being erased.
     pub fn turn_of(&self, block: RingBlock) -> Option<u16>
-        requires { (Shaped self.now.sizes self.now.cleared) × (block.0 < self.now.sizes.ring) }
+        requires { block.0 < self.now.sizes.ring }
         ensures { Turned self.now.sizes self.now.cleared block.0 result }
     {
         let turn = turns_between(self.first_block(), block.0, self.sizes.ring);
@@ -93,7 +92,7 @@ impl Layout {
 
     // The chip's block that a ring block is.
     pub fn chip_block(&self, block: RingBlock) -> Block
-        requires { (Shaped self.now.sizes self.now.cleared) × (block.0 < self.now.sizes.ring) }
+        requires { block.0 < self.now.sizes.ring }
         ensures { result.0 ≡ chip_block self.now.sizes block.0 }
     {
         Block(1 + self.sizes.tally + block.0)

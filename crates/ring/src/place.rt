@@ -1,7 +1,7 @@
 // Where a position of the log lies.
 ghost use Rattle.std.specs.Prelude.{◌≡◌, ◌+◌, ◌*◌, ◌/◌, ◌%◌, ◌<◌};
 ghost use Rattle.ring.specs.Places.{chip_block, block_at, slot_at, flags_at};
-ghost use Rattle.ring.specs.Turns.{Shaped, Ready};
+ghost use Rattle.ring.specs.Turns.{Ready};
 
 use crate::directory::{DESCRIPTOR, SLOTS};
 use crate::layout::Layout;
@@ -11,7 +11,6 @@ use chip::{Block, Chip, PAGE, fetch};
 impl Position {
     // The ring's block in which it lies.
     fn ring_block(self, layout: Layout) -> RingBlock
-        requires { Shaped layout.sizes layout.cleared }
         ensures { result.0 ≡ block_at layout.sizes layout.cleared self.0 }
     {
         RingBlock((layout.first_block() + self.turn()) % layout.sizes.ring)
@@ -19,7 +18,6 @@ impl Position {
 
     // The chip's block in which it lies.
     pub fn block(self, layout: Layout) -> Block
-        requires { Shaped layout.sizes layout.cleared }
         ensures { result.0 ≡ chip_block layout.sizes (block_at layout.sizes layout.cleared self.0) }
     {
         layout.chip_block(self.ring_block(layout))
@@ -27,7 +25,6 @@ impl Position {
 
     // The number of its slot.
     pub fn slot(self, layout: Layout) -> Slot
-        requires { Shaped layout.sizes layout.cleared }
         ensures { result.0 ≡ slot_at layout.sizes layout.cleared self.0 }
     {
         Slot(SLOTS * self.ring_block(layout).0 + self.0 % SLOTS)

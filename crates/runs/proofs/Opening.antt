@@ -20,7 +20,8 @@ use Rattle.engine.specs.declared.memory.Started.{Started}
 use Rattle.engine.specs.declared.memory.Memory.{Memory}
 use Rattle.engine.specs.declared.refusal.Refusal.{Refusal}
 use Rattle.engine.specs.Refusals.{row}
-use Rattle.engine.specs.Memories.{largest_batch, sizes_of, cleared_of, claimed_of, log_at, halted, idle, opened}
+use Rattle.ring.specs.declared.layout.Log.{Log}
+use Rattle.engine.specs.Memories.{largest_batch, sizes_of, cleared_of, claimed_of, At, halted, idle, opened}
 use Rattle.engine.specs.Calls as calls
 use Rattle.engine.specs.Calls.{Openable, Opens}
 use Rattle.runs.specs.declared.run.Call.TheVariants as call
@@ -90,8 +91,8 @@ module _ {z : Sizes} {n : ℕ} {s : Flash} {m : Memory} {l : Ledger} {st : Start
   books t d is most = omega (arith, is, most, cleared_is s z (cleared_of st) stands.ended_entries stands.shaped sane)
 
   -- there is room
-  made : {d u : ℕ} {t : Flash} → Rooms (n + 7) z s (cleared_of st) (claimed_of st) (Ok (reclaims.made d u)) t → Next z s m l (call.Open n) (Ok (reply.Opened (m.tickets + 1))) t (opened m (log_at (sizes_of st) d u) n)
-  made {d} {u} {t} h =
+  made : {log : Log} {d u : ℕ} {t : Flash} → Rooms (n + 7) z s (cleared_of st) (claimed_of st) (Ok (reclaims.made d u)) t → At log (sizes_of st) d u → Next z s m l (call.Open n) (Ok (reply.Opened (m.tickets + 1))) t (opened m log n)
+  made {log} {d} {u} {t} h here =
       let made : Roomed t z (cleared_of st) stands.ended_entries d u × (n + 7 ≤ positions z d - u) =
       rooms_made stands.ended_entries stands.shaped stands.even sane stands.ended count inv.sized.sectors_most (omega (arith, asked.most)) h in
       let x = made.0 in
@@ -101,7 +102,7 @@ module _ {z : Sizes} {n : ℕ} {s : Flash} {m : Memory} {l : Ledger} {st : Start
         inv =
             inv_started inv (blocks_rooms h) (past_rooms h) x.entries on stands.sizes x.shaped x.sane x.even x.ended
             x.claimed (λ i. x.same i ∙ stands.same i)
-            (refl, record { count = refl; most = omega arith; room = omega (arith, made.1) });
+            (refl, record { count = refl; most = omega arith; room = omega (arith, made.1) }) here;
         meets = tt;
         promised = λ _ _ _ _ _. record {
           answers = (refl, on, asked.ticket, omega (arith, made.1, x.claimed, unclaimed_is t z d x.entries x.shaped x.sane));
@@ -110,8 +111,8 @@ module _ {z : Sizes} {n : ℕ} {s : Flash} {m : Memory} {l : Ledger} {st : Start
       }
 
   -- there is none, and the tally is spent
-  spent : {d u : ℕ} {t : Flash} {e : Refusal} → row e ≡ 12 → Rooms (n + 7) z s (cleared_of st) (claimed_of st) (Ok (reclaims.spent d u)) t → Next z s m l (call.Open n) (Err e) t (idle m (log_at (sizes_of st) d u))
-  spent {d} {u} {t} twelve h =
+  spent : {log : Log} {d u : ℕ} {t : Flash} {e : Refusal} → row e ≡ 12 → Rooms (n + 7) z s (cleared_of st) (claimed_of st) (Ok (reclaims.spent d u)) t → At log (sizes_of st) d u → Next z s m l (call.Open n) (Err e) t (idle m log)
+  spent {log} {d} {u} {t} twelve h here =
       let spent : Roomed t z (cleared_of st) stands.ended_entries d u × (positions z d - u < n + 7) × (tally_bits z.tally ≤ d) =
       rooms_spent stands.ended_entries stands.shaped stands.even sane stands.ended count inv.sized.sectors_most (omega (arith, asked.most)) h in
       let x = spent.0 in
@@ -120,7 +121,7 @@ module _ {z : Sizes} {n : ℕ} {s : Flash} {m : Memory} {l : Ledger} {st : Start
         choice = false;
         inv =
             inv_started inv (blocks_rooms h) (past_rooms h) x.entries (on_rooms h stands.power) stands.sizes x.shaped x.sane
-            x.even x.ended x.claimed (λ i. x.same i ∙ stands.same i) (none.0, refl);
+            x.even x.ended x.claimed (λ i. x.same i ∙ stands.same i) (none.0, refl) here;
         meets = tt;
         promised = λ _ _ _ _ _. record {
           answers = inr (inr (
@@ -158,6 +159,6 @@ next_open {m = m} inv (calls.busy {e} {st} {b} is serves held) =
 next_open inv (calls.count {e} is serves free wrong) = same_next e inv (λ st started idle some most. absurd (wrong some most))
 next_open inv (calls.no_ticket {e} is serves free some most given) =
     same_next e inv (λ _ _ _ _ _. inr (inl (first_is is, given)))
-next_open inv (calls.no_bits is asked h) = spent inv asked (first_is is) (about inv asked h)
+next_open inv (calls.no_bits is asked h here) = spent inv asked (first_is is) (about inv asked h) here
 next_open inv (calls.cut is asked h) = cut inv asked (first_is is) (about inv asked h)
-next_open inv (calls.done asked h) = made inv asked (about inv asked h)
+next_open inv (calls.done asked h here) = made inv asked (about inv asked h) here

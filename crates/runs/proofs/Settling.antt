@@ -14,7 +14,8 @@ use Rattle.holding.specs.Puts.{filled_puts}
 use Rattle.keeping.proofs.Stills.{Still}
 use Rattle.engine.specs.declared.memory.Batch.{Batch}
 use Rattle.engine.specs.declared.memory.Memory.{Memory}
-use Rattle.engine.specs.Memories.{log_at, halted}
+use Rattle.ring.specs.declared.layout.Log.{Log}
+use Rattle.engine.specs.Memories.{At, halted}
 use Rattle.runs.specs.Ledger.{Ledger}
 use Rattle.runs.specs.Law.{cleared_on, holding, unclaimed}
 use Rattle.runs.proofs.Standing.{Batched, Inv}
@@ -64,22 +65,22 @@ module _ {z : Sizes} {s t : Flash} {m : Memory} {l k : Ledger} (inv : Inv z s m 
   }
 
   -- it is started, and no put is in its batch, should it have one
-  pub inv_started : {y : Sizes} {d u n : ℕ} {b : Option Batch} (fs : List Entry) → t.on ≡ true → y ≡ z → Shaped z d → Sane t z d fs → d % 2 ≡ 0 → Ended fs → u ≡ length fs → ((x : ℕ) → holds x fs ≡ k.sectors x) → Batched b k.batch [] (positions z d - u) → Inv z t (record { tickets = n; started = Some record { log = log_at y d u; batch = b } }) k
-  inv_started {d = d} fs on sizes shaped sane even ended count says batched = record {
+  pub inv_started : {y : Sizes} {d u n : ℕ} {b : Option Batch} {log : Log} (fs : List Entry) → t.on ≡ true → y ≡ z → Shaped z d → Sane t z d fs → d % 2 ≡ 0 → Ended fs → u ≡ length fs → ((x : ℕ) → holds x fs ≡ k.sectors x) → Batched b k.batch [] (positions z d - u) → At log y d u → Inv z t (record { tickets = n; started = Some record { log = log; batch = b } }) k
+  inv_started {d = d} fs on sizes shaped sane even ended count says batched here = record {
     labelled = label_kept s t blocks bytes inv.labelled;
     sized = sized_kept s t blocks inv.sized;
     carries = record { cleared = d; entries = fs; shaped = shaped; sane = sane; holds = says };
     kept = record {
       power = on;
-      sizes = sizes;
-      shaped = shaped;
-      even = even;
+      sizes = here.sizes ∙ sizes;
+      shaped = rw here.cleared shaped;
+      even = rw here.cleared even;
       ended_entries = fs;
       puts = [];
       ended = ended;
-      sane = subst (Sane t z d) (behind_nothing fs) sane;
-      count = count ∙ ap (λ (l : List Entry). length l) (behind_nothing fs);
+      sane = rw here.cleared (subst (Sane t z d) (behind_nothing fs) sane);
+      count = here.claimed ∙ count ∙ ap (λ (l : List Entry). length l) (behind_nothing fs);
       same = says;
-      batched = batched;
+      batched = rw (here.cleared, here.claimed) batched;
     };
   }

@@ -26,7 +26,7 @@ use Rattle.keeping.proofs.Repairing.{Repaired, repaired, repaired_cut, past_repa
 use Rattle.engine.specs.declared.memory.Memory.{Memory}
 use Rattle.engine.specs.declared.refusal.Refusal.{Refusal}
 use Rattle.engine.specs.Refusals.{row}
-use Rattle.engine.specs.Memories.{log_at, halted, idle}
+use Rattle.engine.specs.Memories.{At, halted, idle}
 use Rattle.engine.specs.Calls as calls
 use Rattle.engine.specs.Calls.{Starts}
 use Rattle.runs.specs.declared.run.Call.TheVariants as call
@@ -102,15 +102,15 @@ module _ {z : Sizes} {s : Flash} {m : Memory} {l : Ledger} (inv : Inv z s m l) w
       front : {t : Flash} {r : Result (Unit {0}) Fault} → Performs plan (awake s) r t → (o : ℕ) → t.byte 0 o ≡ s.byte 0 o
       front h = front_kept h (past_repairs (awake s) z bits (length entries) about)
 
-      started : {t : Flash} → Performs plan (awake s) (Ok tt) t → Next z s m l call.Start (Ok reply.Done) t (idle m (log_at log.layout.sizes c log.claimed))
-      started {t} h =
+      started : {t : Flash} {new : Log} → Performs plan (awake s) (Ok tt) t → At new log.layout.sizes c log.claimed → Next z s m l call.Start (Ok reply.Done) t (idle m new)
+      started {t} h here =
           let x : Repaired t z c entries = repaired (awake s) t z bits entries inv.carries.shaped sane about h in
           let says : (n : ℕ) → holds n x.0 ≡ l.sectors n = λ n. x.6 n ∙ inv.carries.holds n in
           record {
             choice = false;
             inv =
                 inv_started inv (performed_frame h).blocks (front h) x.0 (performs_on h refl) sizes_are x.1 x.2 x.3 x.5
-                (claimed_are ∙ sym x.4) says (refl, refl);
+                (claimed_are ∙ sym x.4) says (refl, refl) here;
             meets = λ n lt. holding_is t z c x.0 x.1 x.2 n ∙ says n;
             promised = tt;
           }
@@ -130,5 +130,5 @@ pub next_start : {z : Sizes} {s t : Flash} {m w : Memory} {l : Ledger} {r : Resu
 next_start {z} {s} inv (calls.label {e} {at} is faulty) =
     absurd (good_not_faulty (front_page s) s.blocks at inv.labelled.label inv.labelled.good faulty)
 next_start inv (calls.rule {e} {rule} {place} is unsound) = absurd (kept inv rule place unsound)
-next_start inv (calls.done sound standing repairs h) = started inv sound repairs h
+next_start inv (calls.done sound standing repairs h here) = started inv sound repairs h here
 next_start inv (calls.cut is sound standing repairs h) = cut inv sound repairs (first_is is) h

@@ -1,5 +1,5 @@
 -- What the copies of a reclaim keep.
-use Rattle.std.proofs.Common.{◌≡◌, ℕ, ◌+◌, ◌*◌, ◌%◌, ◌<◌, ◌≤◌, Bool, false, List, get_or, Ok, sym, ◌∙◌, arith}
+use Rattle.std.proofs.Common.{◌≡◌, ℕ, ◌+◌, ◌*◌, ◌%◌, ◌<◌, ◌≤◌, Bool, false, List, get_or, Ok, sym, ◌∙◌, ap, arith}
 use Rattle.chip.specs.Flash.{Flash}
 use Rattle.chip.specs.Steps.{Step}
 use Rattle.chip.specs.Plans.{Performs}
@@ -10,7 +10,7 @@ use Rattle.ring.specs.Turns.{Ready}
 use Rattle.lookup.specs.Answers.{LiveFrontAmong}
 use Rattle.ring.specs.declared.layout.Log.{Log}
 use Rattle.image.specs.Surveys.{Bounded}
-use Rattle.upkeep.specs.Numbers.{log_at}
+use Rattle.upkeep.specs.Numbers.{At}
 use Rattle.upkeep.specs.Reclaims as reclaims
 use Rattle.upkeep.specs.Reclaims.{Moves, Reclaims}
 
@@ -47,17 +47,14 @@ module _ {s : Flash} {z : Sizes} {c q : ℕ} where
   reclaims_fewer (reclaims.done moved freed) = omega (arith, moves_few moved)
 
 -- a log stands after a reclaim
-pub reclaims_stands : {s t : Flash} {u : ℕ} (log : Log) → Bounded s log → log.layout.cleared % 2 ≡ 0 → log.layout.cleared < 32768 * log.layout.sizes.tally → Reclaims s log.layout.sizes log.layout.cleared log.claimed (Ok u) t → Bounded t (log_at log.layout.sizes (log.layout.cleared + 2) u)
-reclaims_stands log stands idle room h =
+pub reclaims_stands : {s t : Flash} {u : ℕ} (log new : Log) → Bounded s log → log.layout.cleared % 2 ≡ 0 → log.layout.cleared < 32768 * log.layout.sizes.tally → Reclaims s log.layout.sizes log.layout.cleared log.claimed (Ok u) t → At new log.layout.sizes (log.layout.cleared + 2) u → Bounded t new
+reclaims_stands log new stands idle room h here =
     let ready = reclaims_ready h stands.ready in
-    let shaped = ready.shaped in
+    let tally = ap (λ (z : Sizes). z.tally) here.sizes in
+    let ring = ap (λ (z : Sizes). z.ring) here.sizes in
     record {
-      ready = record {
-        power = ready.power;
-        whole = ready.whole;
-        shaped = record { ring_least = shaped.ring_least; ring_most = shaped.ring_most; tally_most = shaped.tally_most; cleared_most = omega (arith, idle, room, shaped.tally_most) };
-      };
-      inside = omega (arith, idle, reclaims_fewer h, stands.inside);
-      bits = omega (arith, idle, room);
-      sectors = stands.sectors;
+      ready = record { power = ready.power; whole = omega (arith, tally, ring, ready.whole); shaped = new.layout.shaped };
+      inside = omega (arith, here.cleared, here.claimed, ring, idle, reclaims_fewer h, stands.inside);
+      bits = omega (arith, here.cleared, tally, idle, room);
+      sectors = omega (arith, ap (λ (z : Sizes). z.sectors) here.sizes, stands.sectors);
     }

@@ -1,5 +1,5 @@
 -- Reclaims one after another: what comes of them from here on comes of them from the start.
-use Rattle.std.proofs.Common.{◌≡◌, ℕ, ◌+◌, ◌-◌, ◌*◌, ◌%◌, ◌<◌, ◌≤◌, Ok, Err, Result, sym, refl, ap, subst, arith}
+use Rattle.std.proofs.Common.{◌≡◌, ℕ, ◌-◌, ◌*◌, ◌%◌, ◌<◌, ◌≤◌, Ok, Err, Result, refl, ap, ◌∙◌, subst, arith}
 use Rattle.chip.specs.declared.Fault.{Fault}
 use Rattle.chip.specs.Flash.{Flash}
 use Rattle.label.specs.declared.Sizes.{Sizes}
@@ -7,7 +7,7 @@ use Rattle.ring.specs.Places.{positions}
 use Rattle.ring.specs.declared.layout.Log.{Log}
 use Rattle.image.specs.Surveys.{Bounded}
 use Rattle.upkeep.specs.declared.room.Room.TheVariants.{Made, Spent}
-use Rattle.upkeep.specs.Numbers.{log_at}
+use Rattle.upkeep.specs.Numbers.{At}
 use Rattle.upkeep.specs.Reclaims as reclaims
 use Rattle.upkeep.specs.Reclaims.{Room, Rooms, Reclaims}
 use Rattle.upkeep.specs.Reclaimed.{Reclaimed}
@@ -25,8 +25,8 @@ pub goes_none : (n : ℕ) (s : Flash) (log : Log) → Bounded s log → log.layo
 goes_none n s log stands idle = record { onward = λ r t h. h; stands = stands; idle = idle; sizes = refl }
 
 module _ (n : ℕ) (s : Flash) (log : Log) (m : Flash) (now : Log) (goes : Goes n s log m now) where
-  same_log : now ≡ log_at log.layout.sizes now.layout.cleared now.claimed
-  same_log = ap (λ (z : Sizes). log_at z now.layout.cleared now.claimed) goes.sizes
+  same_log : At now log.layout.sizes now.layout.cleared now.claimed
+  same_log = record { sizes = goes.sizes; cleared = refl; claimed = refl }
 
   ring_is : positions now.layout.sizes now.layout.cleared ≡ positions log.layout.sizes now.layout.cleared
   ring_is = ap (λ (z : Sizes). positions z now.layout.cleared) goes.sizes
@@ -57,11 +57,9 @@ module _ (n : ℕ) (s : Flash) (log : Log) (m : Flash) (now : Log) (goes : Goes 
       pub goes_round : (t : Flash) (new : Log) → Reclaimed m now (Ok new) t → Bounded t new → Goes n s log t new
       goes_round t new h stands =
           let there = subst (λ (z : Sizes). Reclaims m z now.layout.cleared now.claimed (Ok h.0) t) goes.sizes h.1 in
-          let next : Goes n s log t (log_at now.layout.sizes (now.layout.cleared + 2) h.0) =
           record {
-            onward = λ r u rest. goes.onward r u (reclaims.round too_few (omega (arith, tally_is, bits)) there rest);
-            stands = subst (Bounded t) h.2 stands;
-            idle = omega (arith, goes.idle);
-            sizes = goes.sizes;
-          } in
-          subst (Goes n s log t) (sym h.2) next
+            onward = λ r u rest. goes.onward r u (reclaims.round too_few (omega (arith, tally_is, bits)) there (rw (h.2.cleared, h.2.claimed) at rest));
+            stands = stands;
+            idle = omega (arith, h.2.cleared, goes.idle);
+            sizes = h.2.sizes ∙ goes.sizes;
+          }

@@ -12,7 +12,7 @@ use Rattle.ring.specs.Logs.{ends, unclosed_copy, is_live, log_of}
 use Rattle.laid.specs.Writing.{rebooking, finishing, dropping}
 use Rattle.laid.specs.Sane.{Readable}
 use Rattle.ring.specs.declared.layout.Log.{Log}
-use Rattle.upkeep.specs.Numbers.{log_at}
+use Rattle.upkeep.specs.Numbers.{At}
 
 -- the first position that is live, of the first seven
 abbrev pub source_of : Flash → Sizes → ℕ → ℕ → ℕ
@@ -40,6 +40,6 @@ Mended s log r t =
 -- what a repair answers: the log after it, or the fault that has cut it
 abbrev pub Repaired : Flash → Log → Result Log Fault → Flash → Type 0
 Repaired s log (Ok new) t =
-    (plan : List Step) × (d : ℕ) × Repairs s log.layout.sizes log.layout.cleared log.claimed plan d × Performs plan s (Ok tt) t × (new ≡ log_at log.layout.sizes d log.claimed)
+    (plan : List Step) × (d : ℕ) × Repairs s log.layout.sizes log.layout.cleared log.claimed plan d × Performs plan s (Ok tt) t × At new log.layout.sizes d log.claimed
 Repaired s log (Err f) t =
     (plan : List Step) × (d : ℕ) × Repairs s log.layout.sizes log.layout.cleared log.claimed plan d × Performs plan s (Err f) t

@@ -57,8 +57,8 @@ pub fn reclaim<C: Chip>(chip: &mut C, log: Log) -> Result<Log, Fault>
     free_oldest(chip, log.layout)?;
     Ok(Log {
         layout: Layout {
+            sizes: log.layout.sizes,
             cleared: log.layout.cleared + 2,
-            ..log.layout
         },
         claimed: (log.claimed + copies).saturating_sub(SLOTS),
     })

@@ -58,8 +58,8 @@ pub fn repair<C: Chip>(chip: &mut C, log: Log) -> Result<Log, Fault>
     if log.layout.begun() {
         rebook(chip, log.layout)?;
         let layout = Layout {
+            sizes: log.layout.sizes,
             cleared: log.layout.cleared + 1,
-            ..log.layout
         };
         return Ok(Log { layout, ..log });
     }

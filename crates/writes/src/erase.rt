@@ -3,7 +3,7 @@ ghost use Rattle.std.specs.Prelude.{◌≡◌, ◌+◌, ◌*◌, ◌%◌, ◌<�
 ghost use Rattle.chip.specs.Plans.{Performs};
 ghost use Rattle.chip.specs.Steps.{Answers, erase as erasing};
 ghost use Rattle.ring.specs.Places.{chip_block, oldest};
-ghost use Rattle.ring.specs.Turns.{Shaped, Ready};
+ghost use Rattle.ring.specs.Turns.{Ready};
 ghost use Rattle.laid.specs.Writing.{freeing, rebooking};
 
 use crate::step::clear_bit;
@@ -13,7 +13,6 @@ use ring::layout::Layout;
 
 // Erases the oldest block.
 fn erase_oldest<C: Chip>(chip: &mut C, layout: Layout) -> Result<(), Fault>
-    requires { Shaped layout.sizes layout.cleared }
     ensures { Answers (erasing (chip_block layout.sizes (oldest layout.sizes layout.cleared))) (C.flash chip.old) result (C.flash chip.new) }
 {
     let oldest = RingBlock((layout.booked() % u32::from(layout.sizes.ring)) as u16);

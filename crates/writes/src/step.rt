@@ -1,7 +1,6 @@
 // Single steps: programs of parts of a slot, and of a bit of the tally.
 ghost use Rattle.std.specs.Prelude.{◌≡◌, ◌<◌, length};
 ghost use Rattle.chip.specs.Steps.{Answers};
-ghost use Rattle.ring.specs.Turns.{Shaped};
 ghost use Rattle.laid.specs.Writing.{mark as marking, number as numbering, fill as filling, clearing};
 
 use chip::{BLOCK, Block, Chip, Fault, PAGE, Span};
@@ -10,7 +9,6 @@ use ring::{Position, Sector};
 
 // Clears the bits of a slot's flags that the mask lacks.
 pub fn mark<C: Chip>(chip: &mut C, layout: Layout, at: Position, mask: u8) -> Result<(), Fault>
-    requires { Shaped layout.sizes layout.cleared }
     ensures { Answers (marking layout.sizes layout.cleared at.0 mask) (C.flash chip.old) result (C.flash chip.new) }
 {
     let flags = Span {
@@ -28,7 +26,6 @@ pub fn number<C: Chip>(
     at: Position,
     sector: Sector,
 ) -> Result<(), Fault>
-    requires { Shaped layout.sizes layout.cleared }
     ensures { Answers (numbering layout.sizes layout.cleared at.0 sector.0) (C.flash chip.old) result (C.flash chip.new) }
 {
     let number = Span {
@@ -46,7 +43,6 @@ pub fn fill<C: Chip>(
     at: Position,
     page: &[u8; PAGE],
 ) -> Result<(), Fault>
-    requires { Shaped layout.sizes layout.cleared }
     ensures { Answers (filling layout.sizes layout.cleared at.0 page.now) (C.flash chip.old) result (C.flash chip.new) }
 {
     let whole = Span {

@@ -22,4 +22,4 @@ pub returns : goal.returns
 returns g c =
     let flash = g.C.Chip.flash in
     let h = reclaims.done {m = flash c.move_live.new.chip} {t = flash c.free_oldest.new.chip} c.in_ok-copies.ensures c.in_ok-free_oldest.ensures in
-    rw c.saturating_sub.ensures record { reclaims = (_, h, refl); stands = reclaims_stands c.args.log c.requires.stands c.requires.idle c.requires.bits h }
+    record { reclaims = (_, h, record { sizes = refl; cleared = refl; claimed = c.saturating_sub.ensures }); stands = reclaims_stands c.args.log _ c.requires.stands c.requires.idle c.requires.bits h record { sizes = refl; cleared = refl; claimed = c.saturating_sub.ensures } }

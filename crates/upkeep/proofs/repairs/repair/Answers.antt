@@ -13,4 +13,4 @@ returns-in_err-rebook g c =
 pub returns-then-begun : goal.returns-then-begun
 returns-then-begun g c =
     let odd : c.args.log.layout.cleared % 2 ≡ 1 = search rules in
-    (_, _, repairs.book odd, c.in_ok-rebook.ensures, refl)
+    (_, _, repairs.book odd, c.in_ok-rebook.ensures, record { sizes = refl; cleared = refl; claimed = refl })
