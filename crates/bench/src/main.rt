@@ -13,8 +13,6 @@ const BLOCKS: usize = 8;
 
 const NAME: u16 = 1;
 
-const WHOLE: Plan = Plan { step: 0, mask: 0 };
-
 // The lines of a text, one after another.
 #[derive(Clone, Copy)]
 struct Lines<'a>(&'a [u8]);
@@ -59,7 +57,7 @@ fn run(rt: &HostRuntime) -> anyhow::Result<()> {
     if first.is_some() {
         println!(rt; "x ok")?;
     }
-    let (plan, lines) = first.unwrap_or((WHOLE, all));
+    let (plan, lines) = first.unwrap_or((Plan::WHOLE, all));
     let mut session = Session::new(Bench::new(image.as_mut_slice(), NAME, plan));
     serve_all(rt, &mut session, lines)
 }

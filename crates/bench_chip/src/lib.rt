@@ -6,7 +6,7 @@ ghost use Rattle.chip.specs.Steps.{program, erase, Answers, Reads};
 ghost use Rattle.rows.specs.Rows.{Bytes};
 ghost use Rattle.bench_chip.specs.Burns.{shown, Idle, Began, Programs, Erases};
 
-use chip::{BLOCK, Block, Chip, Fault, Home, Span};
+use chip::{BLOCK, Block, Chip, ERASED, Fault, Home, Span};
 
 // Which step is cut, and what it leaves.
 #[derive(Clone, Copy, PartialEq, Eq, Debug)]
@@ -16,6 +16,11 @@ pub struct Plan {
     pub step: u32,
     // The ones that a cut program spares, and the byte that a cut erase leaves.
     pub mask: u8,
+}
+
+impl Plan {
+    // No step is cut.
+    pub const WHOLE: Plan = Plan { step: 0, mask: 0 };
 }
 
 // The chip: the bytes that are lent to it, its name, its power, and what is left of its plan.
@@ -125,7 +130,7 @@ impl<'a> Chip for Bench<'a> {
             rows::fill_range(self.image, base, BLOCK, self.plan.mask);
             return Err(rows::lost(self.name, block));
         }
-        rows::fill_range(self.image, base, BLOCK, 0xFF);
+        rows::fill_range(self.image, base, BLOCK, ERASED);
         Ok(())
     }
 

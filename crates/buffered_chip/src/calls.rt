@@ -6,7 +6,7 @@ ghost use Rattle.buffered_chip.specs.Plans.{Stored, Wiped};
 ghost use Rattle.buffered_chip.specs.Buffers.{shown, Idle, Settled};
 
 use crate::{Buffered, Plan, Status, steps};
-use chip::{Block, Chip, Fault, Home, PAGE, Span};
+use chip::{Block, Chip, ERASED, Fault, Home, PAGE, Span};
 
 impl<'a> Buffered<'a> {
     // A chip over the whole blocks of `image`, with power.
@@ -18,7 +18,7 @@ impl<'a> Buffered<'a> {
     {
         Buffered {
             image,
-            page: [0xFF; PAGE],
+            page: [ERASED; PAGE],
             status: Status {
                 name,
                 on: true,

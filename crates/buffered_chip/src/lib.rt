@@ -18,6 +18,11 @@ pub struct Plan {
     pub done: usize,
 }
 
+impl Plan {
+    // No step is cut.
+    pub const WHOLE: Plan = Plan { step: 0, done: 0 };
+}
+
 // What a step goes by besides the bytes: the chip's name, its power, and what is left of its plan.
 #[derive(Clone, Copy)]
 struct Status {

@@ -5,7 +5,7 @@ ghost use Rattle.rows.specs.Rows.{count_of, flash_of, Bytes, Masked};
 ghost use Rattle.buffered_chip.specs.Plans.{reached, counted, powered, Stored, Wiped};
 
 use crate::{Plan, Status};
-use chip::{BLOCK, Block, Fault, PAGE, Span};
+use chip::{BLOCK, Block, ERASED, Fault, PAGE, Span};
 
 impl Plan {
     // How many of `len` bytes the next step finishes.
@@ -49,7 +49,7 @@ impl Drop for Ones<'_> {
     fn drop(self)
         ensures { self.exit.0.now ≡ replicate 512 255 }
     {
-        self.bytes.fill(0xFF);
+        self.bytes.fill(ERASED);
         let Ones { bytes: _ } = self;
     }
 }
@@ -63,7 +63,7 @@ fn burn(page: &mut [u8; PAGE], image: &mut [u8], block: Block, at: usize, given:
     ensures { Masked image.old (block.0 * 4096 + at) (length given.now) given.now 0 image.new }
 {
     let offset = at % PAGE;
-    page.fill(0xFF);
+    page.fill(ERASED);
     rows::copy_in(page, offset, given);
     rows::clear_bits(image, rows::place_of(block, at - offset), page, 0);
 }
@@ -111,7 +111,7 @@ pub fn wipe(image: &mut [u8], status: Status, block: Block) -> Result<(), Fault>
         image,
         rows::place_of(block, 0),
         status.plan.reach(BLOCK),
-        0xFF,
+        ERASED,
     );
     if status.plan.step == 1 {
         return Err(rows::lost(status.name, block));

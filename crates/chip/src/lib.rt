@@ -31,6 +31,11 @@ pub struct Home {
     pub block: u16,
 }
 
+impl Home {
+    // That of a block which is not there.
+    pub const NOWHERE: Home = Home { name: 0, block: 0 };
+}
+
 // Why a chip does not do what it is asked to.
 #[derive(Clone, Copy, PartialEq, Eq, Debug)]
 pub enum Fault {
@@ -42,7 +47,8 @@ pub enum Fault {
     Cut(Home),
 }
 
-// A range: `len` bytes of one block, from the byte `at` on.
+// A range: `len` bytes of one block, from the byte `at` on. The length stands beside the buffer's, since a range may be asked
+// for with a buffer of another, which is refused.
 #[derive(Clone, Copy, PartialEq, Eq, Debug)]
 pub struct Span {
     pub block: Block,

@@ -14,7 +14,6 @@ use crate::flaw::Broken;
 use crate::seven::{first_of, how_many};
 use chip::Chip;
 use ring::Position;
-use ring::directory::SLOTS;
 use ring::flags::{ends_group, is_unclosed_copy};
 use ring::layout::{Layout, Log};
 use ring::place::read_flags;
@@ -42,7 +41,7 @@ fn spare_slots(log: Log, copying: bool) -> u16
     requires inside { log.claimed ≤ positions log.layout.sizes log.layout.cleared }
     ensures { result ≡ positions log.layout.sizes log.layout.cleared - log.claimed + (if copying then 1 else 0) }
 {
-    SLOTS * log.layout.turns() - log.claimed + u16::from(copying)
+    log.unclaimed() + u16::from(copying)
 }
 
 // Checks rules 7 to 9, which are about the last claimed slot; `front` says which of the first seven positions are live.

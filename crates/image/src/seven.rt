@@ -5,7 +5,7 @@ ghost use Rattle.image.specs.Sevens.{FirstOf};
 
 use ring::Position;
 
-// How many of seven are true.
+// How many of seven are true. Counted one by one, as `lookup` counts its sectors, and for the same reason.
 pub fn how_many(front: [bool; 7]) -> u16
     ensures { result ≡ count (λ j. slice_index_or front j false) 7 }
 {

@@ -36,7 +36,7 @@ pub fn survey_image<C: Chip>(chip: &mut C, log: Log) -> Survey
         booked,
         begun: layout.begun(),
         left: 16384 * u32::from(layout.sizes.tally) - booked,
-        unclaimed: SLOTS * layout.turns() - log.claimed,
+        unclaimed: log.unclaimed(),
         written: written_sectors(chip, log),
     }
 }

@@ -12,7 +12,7 @@ use std::{env, fs};
 
 // Prints what the bytes of a dump carry.
 fn describe(rt: &HostRuntime, image: &mut [u8]) -> anyhow::Result<()> {
-    let mut chip = Bench::new(image, 1, Plan { step: 0, mask: 0 });
+    let mut chip = Bench::new(image, 1, Plan::WHOLE);
     let blocks = chip.blocks();
     println!(rt; "blocks {blocks}")?;
     let page = first_page(&mut chip);

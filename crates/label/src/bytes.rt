@@ -1,12 +1,13 @@
 // The bytes of a label while it is written, in a buffer that holds the longest.
 ghost use Rattle.std.specs.Prelude.{◌≡◌, ℕ, ◌+◌, ◌≤◌, List, [], ◌++◌, length, take};
 
+use chip::ERASED;
 use std::marker::Model;
 
 // The most bytes of a written label.
 pub const LONGEST_LABEL: usize = 58;
 
-// A label as far as it is written: contracts see the list of its bytes.
+// A label as far as it is written: contracts see the list of its bytes. An array and a length, since there is no heap.
 #[derive(Drop)]
 pub struct LabelBytes {
     bytes: [u8; LONGEST_LABEL],
@@ -28,7 +29,7 @@ impl LabelBytes {
         ensures { result ≡ [] }
     {
         LabelBytes {
-            bytes: [0xFF; LONGEST_LABEL],
+            bytes: [ERASED; LONGEST_LABEL],
             len: 0,
         }
     }

@@ -6,18 +6,16 @@ use ring::{Sector, Slot};
 use std::test::Fail;
 use volume::Volume;
 
-const WHOLE: Plan = Plan { step: 0, mask: 0 };
-
 #[test]
 fn a_ring_of_4096_blocks(rt: HostRuntime) -> Result<(), Fail> {
     let mut image = vec![in rt.alloc(); 0xFF; BLOCKS * BLOCK]?;
-    Volume::new(Bench::new(image.as_mut_slice(), 1, WHOLE)).format(28644, 8, b"")?;
+    Volume::new(Bench::new(image.as_mut_slice(), 1, Plan::WHOLE)).format(28644, 8, b"")?;
     // 8,184 bits are cleared: 4,092 erases are booked, and the log starts four blocks before the ring's end
     clear_bytes(image.as_mut_slice(), 1023);
     for p in 0..30 {
         set_slot(image.as_mut_slice(), 7 * 4092 + p, 0x4F, 28643, 7);
     }
-    let mut chip = Bench::new(image.as_mut_slice(), 1, WHOLE);
+    let mut chip = Bench::new(image.as_mut_slice(), 1, Plan::WHOLE);
     let log = examine(&mut chip)?;
     let found = survey_image(&mut chip, log);
     assert_eq!(rt; found.booked, 4092);

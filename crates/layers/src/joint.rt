@@ -78,7 +78,7 @@ impl<A: Chip, B: Chip> Chip for Joint<A, B> {
 
     fn home(&self, block: Block) -> Home {
         if block.0 >= self.shown() {
-            return Home { name: 0, block: 0 };
+            return Home::NOWHERE;
         }
         match self.half(block) {
             Half::Front(block) => self.front.home(block),

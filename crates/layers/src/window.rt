@@ -47,7 +47,7 @@ impl<C: Chip> Chip for Window<C> {
     fn home(&self, block: Block) -> Home {
         match self.inner(block) {
             Some(inner) => self.chip.home(inner),
-            None => Home { name: 0, block: 0 },
+            None => Home::NOWHERE,
         }
     }
 

@@ -44,7 +44,8 @@ impl Front {
         }
     }
 
-    // Which positions were found themselves.
+    // Which positions were found themselves. Told one by one: by `array::from_fn` a proof does not learn that each call of the
+    // closure sees the same places.
     pub fn own_places(&self) -> [bool; 7]
         ensures { Own self.now.places result }
     {

@@ -6,20 +6,16 @@ use chip::{BLOCK, Home};
 use std::test::Fail;
 use volume::Refusal;
 
-const WHOLE: Plan = Plan { step: 0, mask: 0 };
-
-const BUFFERED: buffered_chip::Plan = buffered_chip::Plan { step: 0, done: 0 };
-
 #[test]
 fn a_pile_formats_as_one_chip(rt: HostRuntime) -> Result<(), Fail> {
     let mut front = vec![in rt.alloc(); 0; 6 * BLOCK]?;
     let mut back = vec![in rt.alloc(); 0; 6 * BLOCK]?;
     let mut alone = vec![in rt.alloc(); 0; 8 * BLOCK]?;
     {
-        let buffered = Buffered::new(front.as_mut_slice(), 1, BUFFERED);
-        let bench = Bench::new(back.as_mut_slice(), 2, WHOLE);
+        let buffered = Buffered::new(front.as_mut_slice(), 1, buffered_chip::Plan::WHOLE);
+        let bench = Bench::new(back.as_mut_slice(), 2, Plan::WHOLE);
         volume_on(buffered, bench, 8).format(14, 1, b"dock")?;
-        Volume::new(Bench::new(alone.as_mut_slice(), 3, WHOLE)).format(14, 1, b"dock")?;
+        Volume::new(Bench::new(alone.as_mut_slice(), 3, Plan::WHOLE)).format(14, 1, b"dock")?;
     }
     assert!(rt; front.len() == 6 * BLOCK && back.len() == 6 * BLOCK && alone.len() == 8 * BLOCK);
     assert!(rt;
@@ -41,7 +37,7 @@ fn a_pile_formats_as_one_chip(rt: HostRuntime) -> Result<(), Fail> {
 fn a_cut_tells_the_home_of_its_block(rt: HostRuntime) -> Result<(), Fail> {
     let mut front = vec![in rt.alloc(); 0; 6 * BLOCK]?;
     let mut back = vec![in rt.alloc(); 0; 6 * BLOCK]?;
-    let buffered = Buffered::new(front.as_mut_slice(), 1, BUFFERED);
+    let buffered = Buffered::new(front.as_mut_slice(), 1, buffered_chip::Plan::WHOLE);
     let bench = Bench::new(back.as_mut_slice(), 2, Plan { step: 3, mask: 7 });
     let mut volume = volume_on(buffered, bench, 8);
     let home = Home { name: 2, block: 2 };

@@ -20,4 +20,4 @@ byte_of CopyClosed = 143
 -- what flags say: a state, or that they are not legal
 abbrev pub StateOf : ℕ → Result State Illegal → Type 0
 StateOf flags (Ok state) = byte_of state ≡ flags
-StateOf flags (Err x) = legal flags ≡ false
+StateOf flags (Err x) = (x.0 ≡ flags) × (legal flags ≡ false)

@@ -1,17 +1,18 @@
 // Where the blocks of the log lie in the ring, and the blocks of the ring on the chip.
 ghost use Rattle.std.specs.Prelude.{◌≡◌, ◌+◌, ◌-◌, ◌*◌, ◌%◌, ◌<◌, ◌≤◌};
-ghost use Rattle.ring.specs.Places.{chip_block, first_block};
+ghost use Rattle.ring.specs.Places.{chip_block, first_block, positions};
 ghost use Rattle.ring.specs.Tally.{booked, begun};
 ghost use Rattle.ring.specs.Turns.{Shaped, turns_of, Turned};
 
 use crate::RingBlock;
+use crate::directory::SLOTS;
 use chip::Block;
 use label::Sizes;
 
 // The bits of a block of the tally.
 pub const TALLY_BITS: u32 = 32768;
 
-// The sizes of a volume, and how many bits of its tally are cleared.
+// The sizes of a volume, and how many bits of its tally are cleared; both keep their limits.
 #[derive(Clone, Copy)]
 pub struct Layout {
     pub sizes: Sizes,
@@ -28,6 +29,13 @@ pub struct Log {
     pub claimed: u16,
 }
 
+// Whether so many cleared bits, be they a tally's or not, say that an erase has begun.
+pub fn has_begun(cleared: u32) -> bool
+    ensures { result ≡ begun cleared }
+{
+    cleared % 2 == 1
+}
+
 // How many turns after block `from` block `to` comes, in a ring of `ring` blocks.
 fn turns_between(from: u16, to: u16, ring: u16) -> u16
     requires { (from < ring) × ((to < ring) × (ring ≤ 4096)) }
@@ -37,6 +45,16 @@ fn turns_between(from: u16, to: u16, ring: u16) -> u16
         to + ring - from
     } else {
         to - from
+    }
+}
+
+impl Log {
+    // How many slots are not claimed.
+    pub fn unclaimed(&self) -> u16
+        requires { self.now.claimed ≤ positions self.now.layout.sizes self.now.layout.cleared }
+        ensures { result ≡ positions self.now.layout.sizes self.now.layout.cleared - self.now.claimed }
+    {
+        SLOTS * self.layout.turns() - self.claimed
     }
 }
 
@@ -59,7 +77,7 @@ impl Layout {
     pub fn begun(&self) -> bool
         ensures { result ≡ begun self.now.cleared }
     {
-        self.cleared % 2 == 1
+        has_begun(self.cleared)
     }
 
     // How many blocks the log has: all of the ring, but one that is being erased.

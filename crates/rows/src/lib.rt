@@ -35,7 +35,7 @@ pub fn home_of(row: &[u8], name: u16, block: Block) -> Home
             block: block.0,
         }
     } else {
-        Home { name: 0, block: 0 }
+        Home::NOWHERE
     }
 }
 

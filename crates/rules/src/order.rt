@@ -13,7 +13,7 @@ use chip::Chip;
 use ring::Position;
 use ring::directory::Descriptor;
 use ring::flags::{ends_group, is_copy, is_unfilled};
-use ring::layout::Layout;
+use ring::layout::{Layout, Log};
 
 // The flags of the position before one of a block with these descriptors. That of a block's first slot is in the turn
 // before.
@@ -40,38 +40,25 @@ fn is_unfinished(at: Position, claimed: u16, flags: u8) -> bool
 }
 
 // Whether the slot at a position, of a block with these descriptors, is a copy that stands inside a group.
-fn splits_group<C: Chip>(
-    chip: &mut C,
-    layout: Layout,
-    claimed: u16,
-    at: Position,
-    slots: &[Descriptor],
-) -> bool
-    requires ready { Ready (C.flash chip.old) layout.sizes layout.cleared }
-    requires shows { Shows (C.flash chip.old) layout.sizes layout.cleared (at.0 / 7) slots.now }
-    ensures tells { Tells result ((0 < at.0) × (at.0 < claimed) × (is_copy (slice_index_or slots.now (at.0 % 7) none).flags ≡ true) × (ends (flags_at (C.flash chip.old) layout.sizes layout.cleared (at.0 - 1)) ≡ false)) }
+fn splits_group<C: Chip>(chip: &mut C, log: Log, at: Position, slots: &[Descriptor]) -> bool
+    requires ready { Ready (C.flash chip.old) log.layout.sizes log.layout.cleared }
+    requires shows { Shows (C.flash chip.old) log.layout.sizes log.layout.cleared (at.0 / 7) slots.now }
+    ensures tells { Tells result ((0 < at.0) × (at.0 < log.claimed) × (is_copy (slice_index_or slots.now (at.0 % 7) none).flags ≡ true) × (ends (flags_at (C.flash chip.old) log.layout.sizes log.layout.cleared (at.0 - 1)) ≡ false)) }
     ensures keeps { C.flash chip.new ≡ C.flash chip.old }
 {
-    if at.0 == 0 || at.0 >= claimed || !is_copy(slots[at.index()].flags) {
+    if at.0 == 0 || at.0 >= log.claimed || !is_copy(slots[at.index()].flags) {
         return false;
     }
-    !ends_group(flags_before(chip, layout, at, slots))
+    !ends_group(flags_before(chip, log.layout, at, slots))
 }
 
 // Whether the slot at a position, of a block with these descriptors, breaks the order of the claimed slots.
-pub fn is_misplaced<C: Chip>(
-    chip: &mut C,
-    layout: Layout,
-    claimed: u16,
-    at: Position,
-    slots: &[Descriptor],
-) -> bool
-    requires ready { Ready (C.flash chip.old) layout.sizes layout.cleared }
-    requires count { claimed ≡ claimed_of (C.flash chip.old) layout.sizes layout.cleared }
-    requires shows { Shows (C.flash chip.old) layout.sizes layout.cleared (at.0 / 7) slots.now }
-    ensures tells { Tells result (Misplaced (C.flash chip.old) layout.sizes layout.cleared at.0) }
+pub fn is_misplaced<C: Chip>(chip: &mut C, log: Log, at: Position, slots: &[Descriptor]) -> bool
+    requires ready { Ready (C.flash chip.old) log.layout.sizes log.layout.cleared }
+    requires count { log.claimed ≡ claimed_of (C.flash chip.old) log.layout.sizes log.layout.cleared }
+    requires shows { Shows (C.flash chip.old) log.layout.sizes log.layout.cleared (at.0 / 7) slots.now }
+    ensures tells { Tells result (Misplaced (C.flash chip.old) log.layout.sizes log.layout.cleared at.0) }
     ensures keeps { C.flash chip.new ≡ C.flash chip.old }
 {
-    is_unfinished(at, claimed, slots[at.index()].flags)
-        || splits_group(chip, layout, claimed, at, slots)
+    is_unfinished(at, log.claimed, slots[at.index()].flags) || splits_group(chip, log, at, slots)
 }

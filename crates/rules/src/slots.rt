@@ -101,11 +101,7 @@ pub fn unclean_slot<C: Chip>(chip: &mut C, log: Log) -> Option<Slot>
     ensures first { FirstSlot (At log.layout.sizes log.layout.cleared (slot_at log.layout.sizes log.layout.cleared) (Unclean (C.flash chip.old) log.layout.sizes log.layout.cleared)) result }
     ensures keeps { C.flash chip.new ≡ C.flash chip.old }
 {
-    first_slot::<C, Brand, _>(
-        chip,
-        log.layout,
-        |chip, at, _| is_unclean(chip, log.layout, log.claimed, at),
-    )
+    first_slot::<C, Brand, _>(chip, log.layout, |chip, at, _| is_unclean(chip, log, at))
 }
 
 // The first of the `claimed` slots that is out of order.
@@ -118,7 +114,7 @@ pub fn misplaced_slot<C: Chip>(chip: &mut C, log: Log) -> Option<Slot>
     first_slot::<C, Brand, _>(
         chip,
         log.layout,
-        |chip, at, slots| is_misplaced(chip, log.layout, log.claimed, at, slots),
+        |chip, at, slots| is_misplaced(chip, log, at, slots),
     )
 }
 

@@ -11,7 +11,7 @@ use crate::bytes::is_marked;
 use chip::{Chip, PAGE};
 use ring::Position;
 use ring::directory::DESCRIPTOR;
-use ring::layout::Layout;
+use ring::layout::{Layout, Log};
 
 // Whether the descriptor or the page of the slot at a position is not erased.
 fn is_used<C: Chip>(chip: &mut C, layout: Layout, at: Position) -> bool
@@ -25,14 +25,14 @@ fn is_used<C: Chip>(chip: &mut C, layout: Layout, at: Position) -> bool
 }
 
 // Whether the slot at a position of the log is behind the claimed ones, and not erased.
-pub fn is_unclean<C: Chip>(chip: &mut C, layout: Layout, claimed: u16, at: Position) -> bool
-    requires ready { Ready (C.flash chip.old) layout.sizes layout.cleared }
-    requires count { claimed ≡ claimed_of (C.flash chip.old) layout.sizes layout.cleared }
-    ensures tells { Tells result (Unclean (C.flash chip.old) layout.sizes layout.cleared at.0) }
+pub fn is_unclean<C: Chip>(chip: &mut C, log: Log, at: Position) -> bool
+    requires ready { Ready (C.flash chip.old) log.layout.sizes log.layout.cleared }
+    requires count { log.claimed ≡ claimed_of (C.flash chip.old) log.layout.sizes log.layout.cleared }
+    ensures tells { Tells result (Unclean (C.flash chip.old) log.layout.sizes log.layout.cleared at.0) }
     ensures keeps { C.flash chip.new ≡ C.flash chip.old }
 {
-    if at.0 < claimed {
+    if at.0 < log.claimed {
         return false;
     }
-    is_used(chip, layout, at)
+    is_used(chip, log.layout, at)
 }

@@ -5,7 +5,6 @@ ghost use Rattle.upkeep.specs.Roomy.{RoomMade, RoomStands};
 
 use crate::reclaims::reclaim;
 use chip::{Chip, Fault};
-use ring::directory::SLOTS;
 use ring::layout::{Log, TALLY_BITS};
 
 // Whether there is room, or the tally has no bits left to make it; and where the log then stands. No `Result`: both ways
@@ -23,7 +22,7 @@ pub fn make_room<C: Chip>(chip: &mut C, log: Log, slots: u16) -> Result<Room, Fa
     ensures stands { RoomStands (C.flash chip.new) result }
 {
     let mut log = log;
-    while SLOTS * log.layout.turns() - log.claimed < slots {
+    while log.unclaimed() < slots {
         if log.layout.cleared >= TALLY_BITS * u32::from(log.layout.sizes.tally) {
             return Ok(Room::Spent(log));
         }

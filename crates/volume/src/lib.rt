@@ -78,7 +78,7 @@ impl<C: Chip> Volume<C> {
     }
 
     // Fills a page with what a sector holds, and says whether it is written; a page of FF hex stands for one that is not.
-    // An open batch is not seen.
+    // An open batch is not seen. No Option of a page: the buffer is the caller's, and is told of both ways.
     pub fn read(&mut self, sector: Sector, into: &mut [u8]) -> Result<bool, Refusal>
         ensures reads { Reads sector.0 (C.flash self.old.engine.chip) self.old.engine.memory into.old result into.new }
         ensures keeps { (C.flash self.new.engine.chip ≡ C.flash self.old.engine.chip) × (self.new.engine.memory ≡ self.old.engine.memory) }

@@ -8,7 +8,7 @@ use chip::{Chip, Fault, PAGE};
 use ring::layout::Layout;
 use ring::{Position, Sector};
 
-// The masks of the flags: each clears one bit.
+// The masks of the flags: each clears one bit. No states: a mask is no flags that a slot has.
 const CLAIMED_PUT: u8 = 0x7F;
 
 const CLAIMED_COPY: u8 = 0xBF;

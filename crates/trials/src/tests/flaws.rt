@@ -1,7 +1,6 @@
 // A start on images that are at fault.
-use super::WHOLE;
 use crate::{BLOCKS, SECTORS};
-use bench_chip::Bench;
+use bench_chip::{Bench, Plan};
 use chip::BLOCK;
 use engine::Refusal;
 use image::examine;
@@ -11,12 +10,12 @@ use volume::Volume;
 
 // What a start answers on an image.
 fn start_on(image: &mut [u8]) -> Result<(), Refusal> {
-    Volume::new(Bench::new(image, 1, WHOLE)).start()
+    Volume::new(Bench::new(image, 1, Plan::WHOLE)).start()
 }
 
 // What an examination says of it, as a start would.
 fn examine_on(image: &mut [u8]) -> Result<(), Refusal> {
-    examine(&mut Bench::new(image, 1, WHOLE))?;
+    examine(&mut Bench::new(image, 1, Plan::WHOLE))?;
     Ok(())
 }
 
@@ -34,7 +33,7 @@ fn spoil(
     len: usize,
     wanted: &[usize],
 ) -> Result<(), Fail> {
-    Volume::new(Bench::new(image, 1, WHOLE)).format(SECTORS, 1, b"")?;
+    Volume::new(Bench::new(image, 1, Plan::WHOLE)).format(SECTORS, 1, b"")?;
     assert!(rt; at < image.len() && len <= image.len());
     image[at] = byte;
     let examined = examine_on(&mut image[0..len]);

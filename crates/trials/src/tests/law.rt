@@ -1,5 +1,4 @@
 // A run of calls, many of them to be refused.
-use super::WHOLE;
 use crate::{BLOCKS, SECTORS};
 use bench_chip::{Bench, Plan};
 use chip::{BLOCK, Home};
@@ -205,9 +204,9 @@ fn run_keeps_the_law(rt: HostRuntime) -> Result<(), Fail> {
     let image = bytes.as_mut_slice();
     let page = [7; 512];
     let short = [7; 511];
-    compare(&rt, image, WHOLE, &first_calls(&page, &short), &FIRST)?;
-    compare(&rt, image, WHOLE, &batch_calls(&page, &short), &BATCH)?;
-    compare(&rt, image, WHOLE, &ticket_calls(&page), &TICKETS)?;
+    compare(&rt, image, Plan::WHOLE, &first_calls(&page, &short), &FIRST)?;
+    compare(&rt, image, Plan::WHOLE, &batch_calls(&page, &short), &BATCH)?;
+    compare(&rt, image, Plan::WHOLE, &ticket_calls(&page), &TICKETS)?;
     let second_put = Plan { step: 13, mask: 0 };
     compare(&rt, image, second_put, &cut_calls(&page), &CUT)
 }
@@ -217,7 +216,7 @@ fn refuse<'a>(rt: &impl Abort, image: &mut [u8], calls: &[Call<'a>]) {
     let before = [Ok(Reply::Opened(9)); 16];
     let mut answers = before;
     let mut buffer = [0; 600];
-    let mut engine = Engine::new(Bench::new(image, 1, WHOLE));
+    let mut engine = Engine::new(Bench::new(image, 1, Plan::WHOLE));
     let answer = run_calls(&mut engine, 8, 1, b"", calls, &mut answers, &mut buffer);
     assert_eq!(rt; answer, Err(Refusal::Sizes));
     assert_eq!(rt; answers, before, "no call is made");

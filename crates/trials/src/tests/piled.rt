@@ -1,5 +1,4 @@
 // The script over different chips.
-use super::WHOLE;
 use super::cuts::{END, FIRST};
 use super::running::{Progress, run_whole};
 use crate::{BATCHES, End, SECTORS, batch_at, byte_of, sector_of};
@@ -13,8 +12,6 @@ use runs::{Answer, Call, Reply, run_calls};
 use std::process::Abort;
 use std::test::Fail;
 use volume::Volume;
-
-const BUFFERED: buffered_chip::Plan = buffered_chip::Plan { step: 0, done: 0 };
 
 // Fills 256 pages, each with the byte of its number.
 fn fill_pages(pages: &mut [u8]) {
@@ -98,9 +95,9 @@ fn run_alone<'a>(
     bench: &mut [u8],
     buffered: &mut [u8],
 ) -> Result<[Answer; 256], Fail> {
-    let mut engine = Engine::new(Bench::new(bench, 1, WHOLE));
+    let mut engine = Engine::new(Bench::new(bench, 1, Plan::WHOLE));
     let answers = answer_all(rt, &mut engine, calls)?;
-    let mut other = Engine::new(Buffered::new(buffered, 1, BUFFERED));
+    let mut other = Engine::new(Buffered::new(buffered, 1, buffered_chip::Plan::WHOLE));
     compare(rt, &answer_all(rt, &mut other, calls)?, &answers);
     Ok(answers)
 }
@@ -112,8 +109,8 @@ fn run_piled<'a>(
     front: &mut [u8],
     back: &mut [u8],
 ) -> Result<[Answer; 256], Fail> {
-    let one = Buffered::new(front, 1, BUFFERED);
-    let other = Bench::new(back, 2, WHOLE);
+    let one = Buffered::new(front, 1, buffered_chip::Plan::WHOLE);
+    let other = Bench::new(back, 2, Plan::WHOLE);
     let mut engine = Engine::new(pile(one, other, 7));
     answer_all(rt, &mut engine, calls)
 }
@@ -190,7 +187,13 @@ fn cuts_everywhere_on_a_pile(rt: HostRuntime) -> Result<(), Fail> {
     // the format makes five steps on the front, and three on the back
     for step in 6..END {
         let plan = buffered_chip::Plan { step, done: 1 };
-        let cut = cut_pile(&rt, front.as_mut_slice(), back.as_mut_slice(), plan, WHOLE)?;
+        let cut = cut_pile(
+            &rt,
+            front.as_mut_slice(),
+            back.as_mut_slice(),
+            plan,
+            Plan::WHOLE,
+        )?;
         cuts = cuts.saturating_add(cut);
     }
     for step in 4..END {
@@ -199,7 +202,7 @@ fn cuts_everywhere_on_a_pile(rt: HostRuntime) -> Result<(), Fail> {
             &rt,
             front.as_mut_slice(),
             back.as_mut_slice(),
-            BUFFERED,
+            buffered_chip::Plan::WHOLE,
             plan,
         )?;
         cuts = cuts.saturating_add(cut);

@@ -1,5 +1,4 @@
 // A tally that is spent, or soon will be.
-use super::WHOLE;
 use crate::{BLOCKS, SECTORS};
 use bench_chip::{Bench, Plan};
 use chip::{BLOCK, Chip};
@@ -10,7 +9,7 @@ use std::test::Fail;
 
 // Formats an image, and clears its tally but for the last byte.
 fn spend(rt: &impl Abort, image: &mut [u8], last: u8) -> Result<(), Fail> {
-    Engine::new(Bench::new(image, 1, WHOLE)).format(SECTORS, 1, b"")?;
+    Engine::new(Bench::new(image, 1, Plan::WHOLE)).format(SECTORS, 1, b"")?;
     assert!(rt; image.len() == BLOCKS * BLOCK);
     image[BLOCK..2 * BLOCK].fill(0);
     image[2 * BLOCK - 1] = last;
@@ -47,7 +46,7 @@ fn weigh<C: Chip>(
 fn a_spent_tally_serves_until_a_reclaim_is_due(rt: HostRuntime) -> Result<(), Fail> {
     let mut image = vec![in rt.alloc(); 0; BLOCKS * BLOCK]?;
     spend(&rt, image.as_mut_slice(), 0)?;
-    let mut engine = Engine::new(Bench::new(image.as_mut_slice(), 1, WHOLE));
+    let mut engine = Engine::new(Bench::new(image.as_mut_slice(), 1, Plan::WHOLE));
     engine.start()?;
     write_twice(&mut engine)?;
     write_twice(&mut engine)?;
@@ -61,7 +60,7 @@ fn a_spent_tally_serves_until_a_reclaim_is_due(rt: HostRuntime) -> Result<(), Fa
 fn the_last_erase_is_booked(rt: HostRuntime) -> Result<(), Fail> {
     let mut image = vec![in rt.alloc(); 0; BLOCKS * BLOCK]?;
     spend(&rt, image.as_mut_slice(), 3)?;
-    let mut engine = Engine::new(Bench::new(image.as_mut_slice(), 1, WHOLE));
+    let mut engine = Engine::new(Bench::new(image.as_mut_slice(), 1, Plan::WHOLE));
     engine.start()?;
     write_twice(&mut engine)?;
     write_twice(&mut engine)?;
