@@ -1,4 +1,5 @@
-// Reads of ranges that are there, from a chip that has power: they are not refused.
+// Reads of ranges that are there, from a chip that has power: they are not refused. Block and offset are two arguments, as
+// callers have them, from a directory's number and a place in it; a struct of both would be written out at each call.
 ghost use Rattle.std.specs.Prelude.{◌≡◌, ℕ, ◌+◌, ◌<◌, true, length, slice_index};
 ghost use Rattle.chip.specs.Ranges.{Within};
 

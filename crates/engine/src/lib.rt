@@ -55,7 +55,8 @@ impl<C: Chip> Engine<C> {
     }
 
     // Erases the whole chip and writes the label of `sectors` sectors, `tally` tally blocks and this name; an empty
-    // name is none. The blocks that are left are the ring.
+    // name is none. The blocks that are left are the ring. Three arguments, as the call is defined: a struct of them would
+    // be taken apart at once.
     pub fn format(&mut self, sectors: u16, tally: u16, name: &[u8]) -> Result<(), Refusal>
         ensures formats { Formats sectors tally name.now (C.flash self.old.chip) result (C.flash self.new.chip) }
         ensures forgets { Forgets result self.old.memory self.new.memory }

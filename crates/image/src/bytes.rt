@@ -16,7 +16,7 @@ fn is_over(upper: &[u8], lower: &[u8]) -> bool
         .all(|(above, below)| above & below == *below)
 }
 
-// The same of so many bytes of two blocks.
+// The same of so many bytes of two blocks, each from an offset on, as `fetch` takes them.
 pub fn range_is_over<C: Chip, const N: usize>(
     chip: &mut C,
     upper: Block,

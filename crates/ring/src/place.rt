@@ -9,7 +9,7 @@ use crate::{Position, RingBlock, Slot};
 use chip::{Block, Chip, PAGE, fetch};
 
 impl Position {
-    // The ring's block in which it lies.
+    // The ring's block in which it lies. Not by `block_at_turn`, which asks for a turn of the log: a position may be any.
     fn ring_block(self, layout: Layout) -> RingBlock
         ensures { result.0 ≡ block_at layout.sizes layout.cleared self.0 }
     {
