@@ -1,12 +1,11 @@
 // Every step of the script, cut.
-use super::running::{Progress, run_first, run_out, run_whole};
+use super::running::{Progress, Script};
 use crate::BLOCKS;
 use bench_chip::{Bench, Plan};
 use buffered_chip::Buffered;
 use chip::{BLOCK, Chip};
 use std::process::Abort;
 use std::test::Fail;
-use volume::Volume;
 
 // The step after those of the format, and the one after those of the script.
 pub const FIRST: u32 = 9;
@@ -15,9 +14,9 @@ pub const END: u32 = 390;
 
 // Runs the script on a chip that cuts a step, if the script comes to it.
 fn cut_at<C: Chip + Drop>(rt: &impl Abort, chip: C, step: u32) -> Result<(), Fail> {
-    let mut progress = Progress::new();
-    run_whole(rt, &mut Volume::new(chip), &mut progress)?;
-    assert_eq!(rt; progress.cuts, u32::from(step < END), "{}", step);
+    let mut script = Script::new(chip, Progress::new());
+    script.run_whole(rt)?;
+    assert_eq!(rt; script.progress.cuts, u32::from(step < END), "{}", step);
     Ok(())
 }
 
@@ -40,13 +39,12 @@ fn cut_buffered(rt: &impl Abort, image: &mut [u8], done: usize) -> Result<(), Fa
 
 // Cuts it at a step, and then at a step of what follows, on a chip over the same bytes.
 fn cut_twice(rt: &impl Abort, image: &mut [u8], first: Plan, second: Plan) -> Result<(), Fail> {
-    let mut progress = Progress::new();
-    {
-        let mut volume = Volume::new(Bench::new(image, 1, first));
-        run_first(rt, &mut volume, &mut progress)?;
-    }
-    let mut volume = Volume::new(Bench::new(image, 1, second));
-    run_out(rt, &mut volume, &mut progress)
+    let progress = {
+        let mut script = Script::new(Bench::new(image, 1, first), Progress::new());
+        script.run_first(rt)?;
+        script.progress
+    };
+    Script::new(Bench::new(image, 1, second), progress).run_out(rt)
 }
 
 // Cuts it at each step, and again at the step that is `second` steps on.

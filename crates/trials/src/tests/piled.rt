@@ -1,6 +1,6 @@
 // The script over different chips.
 use super::cuts::{END, FIRST};
-use super::running::{Progress, run_whole};
+use super::running::{Progress, Script};
 use crate::{BATCHES, End, SECTORS, batch_at, byte_of, sector_of};
 use bench_chip::{Bench, Plan};
 use buffered_chip::Buffered;
@@ -11,7 +11,6 @@ use ring::Sector;
 use runs::{Answer, Call, Reply, run_calls};
 use std::process::Abort;
 use std::test::Fail;
-use volume::Volume;
 
 // Fills 256 pages, each with the byte of its number.
 fn fill_pages(pages: &mut [u8]) {
@@ -172,11 +171,10 @@ fn cut_pile(
     one: buffered_chip::Plan,
     other: Plan,
 ) -> Result<u32, Fail> {
-    let mut progress = Progress::new();
     let chip = pile(Buffered::new(front, 1, one), Bench::new(back, 2, other), 7);
-    let mut volume = Volume::new(chip);
-    run_whole(rt, &mut volume, &mut progress)?;
-    Ok(progress.cuts)
+    let mut script = Script::new(chip, Progress::new());
+    script.run_whole(rt)?;
+    Ok(script.progress.cuts)
 }
 
 #[test]
