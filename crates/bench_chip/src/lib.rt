@@ -6,7 +6,7 @@ ghost use Rattle.chip.specs.Steps.{program, erase, Answers, Reads};
 ghost use Rattle.rows.specs.Rows.{Bytes};
 ghost use Rattle.bench_chip.specs.Burns.{shown, Idle, Began, Programs, Erases};
 
-use chip::{BLOCK, Block, Chip, ERASED, Fault, Home, Span};
+use chip::{BLOCK, Block, Chip, ERASED, Fault, Home, Span, admit};
 
 // Which step is cut, and what it leaves.
 #[derive(Clone, Copy, PartialEq, Eq, Debug)]
@@ -100,12 +100,7 @@ impl<'a> Chip for Bench<'a> {
         ensures answers { Answers (program span.block.0 span.at span.len given.now) (shown self.old) result (shown self.new) }
         ensures burns { Programs span.block.0 span.at given.now self.old result self.new }
     {
-        if !span.is_paged(self.blocks(), given.len()) {
-            return Err(Fault::Range);
-        }
-        if !self.on {
-            return Err(Fault::NoPower);
-        }
+        admit(span.is_paged(self.blocks(), given.len()), self.on)?;
         let base = rows::place_of(span.block, span.at);
         if self.begin() {
             rows::clear_bits(self.image, base, given, self.plan.mask);
@@ -119,12 +114,7 @@ impl<'a> Chip for Bench<'a> {
         ensures answers { Answers (erase block.0) (shown self.old) result (shown self.new) }
         ensures burns { Erases block.0 self.old result self.new }
     {
-        if block.0 >= self.blocks() {
-            return Err(Fault::Range);
-        }
-        if !self.on {
-            return Err(Fault::NoPower);
-        }
+        admit(block.0 < self.blocks(), self.on)?;
         let base = rows::place_of(block, 0);
         if self.begin() {
             rows::fill_range(self.image, base, BLOCK, self.plan.mask);

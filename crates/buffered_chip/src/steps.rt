@@ -5,7 +5,7 @@ ghost use Rattle.rows.specs.Rows.{count_of, flash_of, Bytes, Masked};
 ghost use Rattle.buffered_chip.specs.Plans.{reached, counted, powered, Stored, Wiped};
 
 use crate::{Plan, Status};
-use chip::{BLOCK, Block, ERASED, Fault, PAGE, Span};
+use chip::{BLOCK, Block, ERASED, Fault, PAGE, Span, admit};
 
 impl Plan {
     // How many of `len` bytes the next step finishes.
@@ -82,12 +82,8 @@ pub fn store(
     ensures stored { Stored span.block.0 span.at given.now status.plan image.old result image.new }
 {
     let buffer = Ones { bytes: page };
-    if !span.is_paged(rows::whole_blocks(image), given.len()) {
-        return Err(Fault::Range);
-    }
-    if !status.on {
-        return Err(Fault::NoPower);
-    }
+    let there = span.is_paged(rows::whole_blocks(image), given.len());
+    admit(there, status.on)?;
     let reach = status.plan.reach(given.len());
     burn(buffer.bytes, image, span.block, span.at, &given[..reach]);
     if status.plan.step == 1 {
@@ -101,12 +97,7 @@ pub fn wipe(image: &mut [u8], status: Status, block: Block) -> Result<(), Fault>
     ensures answers { Answers (erase block.0) (flash_of image.old status.on status.name) result (flash_of image.new (powered result status.on) status.name) }
     ensures wiped { Wiped block.0 status.plan image.old result image.new }
 {
-    if block.0 >= rows::whole_blocks(image) {
-        return Err(Fault::Range);
-    }
-    if !status.on {
-        return Err(Fault::NoPower);
-    }
+    admit(block.0 < rows::whole_blocks(image), status.on)?;
     rows::fill_range(
         image,
         rows::place_of(block, 0),

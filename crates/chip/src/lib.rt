@@ -2,7 +2,7 @@
 // A chip of serial NOR flash: what it means, and what each implementation of it keeps to.
 ghost use Rattle.std.specs.Prelude.{◌≡◌};
 ghost use Rattle.chip.specs.Flash.{Flash, home_at, awake};
-ghost use Rattle.chip.specs.Ranges.{Tells, Within, Paged};
+ghost use Rattle.chip.specs.Ranges.{Admitted, Tells, Within, Paged};
 ghost use Rattle.chip.specs.Steps.{program, erase, Answers, Reads};
 
 mod fetching;
@@ -45,6 +45,19 @@ pub enum Fault {
     NoPower,
     // Power was lost in this step, at the block with this home.
     Cut(Home),
+}
+
+// The refusal of a range or block that is not there, or else of a chip that is off.
+pub fn admit(there: bool, on: bool) -> Result<(), Fault>
+    ensures { Admitted there on result }
+{
+    if !there {
+        return Err(Fault::Range);
+    }
+    if !on {
+        return Err(Fault::NoPower);
+    }
+    Ok(())
 }
 
 // A range: `len` bytes of one block, from the byte `at` on. The length stands beside the buffer's, since a range may be asked

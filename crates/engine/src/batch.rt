@@ -105,7 +105,8 @@ impl<C: Chip> Engine<C> {
         Ok(())
     }
 
-    // Ends the open batch, by this step at its last slot; a batch without puts has none.
+    // Ends the open batch, by this step at its last slot; a batch without puts has none. Not by `Log::last`: no clause says
+    // that a slot is claimed once there are puts, so a log without one would need an answer of its own.
     fn end_batch<E: FnOnce(&mut C, Layout, Position) -> Result<(), Fault>>(
         &mut self,
         ticket: u32,

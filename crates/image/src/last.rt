@@ -53,10 +53,9 @@ pub fn check_last<C: Chip>(chip: &mut C, log: Log, front: [bool; 7]) -> Result<(
     ensures checked { Checked (C.flash chip.old) log.layout.sizes log.layout.cleared 7 9 result }
     ensures keeps { C.flash chip.new ≡ C.flash chip.old }
 {
-    if log.claimed == 0 {
+    let Some(last) = log.last() else {
         return Ok(());
-    }
-    let last = Position(log.claimed - 1);
+    };
     let place = last.slot(log.layout).0;
     let flags = read_flags(chip, log.layout, last);
     if log.layout.begun() {

@@ -2,7 +2,7 @@
 ghost use Rattle.std.specs.Prelude.{◌≡◌, ◌+◌, min, ◌&&◌};
 ghost use Rattle.layers.specs.Joints.{joined, Found, Reached};
 
-use chip::{Block, Chip, Fault, Home, Span};
+use chip::{Block, Chip, Fault, Home, Span, admit};
 
 // The blocks of `front`, then those of `back`, up to 65,535. It has power when both have.
 #[derive(Drop)]
@@ -55,12 +55,7 @@ impl<A: Chip, B: Chip> Joint<A, B> {
     fn reach(&self, block: Block, within: bool) -> Result<Half, Fault>
         ensures { Reached (joined (A.Chip.flash self.now.front) (B.Chip.flash self.now.back)).on (A.Chip.flash self.now.front).blocks block.0 within result }
     {
-        if !within {
-            return Err(Fault::Range);
-        }
-        if !self.both_on() {
-            return Err(Fault::NoPower);
-        }
+        admit(within, self.both_on())?;
         Ok(self.half(block))
     }
 }

@@ -1,11 +1,11 @@
 // Where the blocks of the log lie in the ring, and the blocks of the ring on the chip.
-ghost use Rattle.std.specs.Prelude.{◌≡◌, ◌+◌, ◌-◌, ◌*◌, ◌%◌, ◌<◌, ◌≤◌};
+ghost use Rattle.std.specs.Prelude.{◌≡◌, ◌+◌, ◌-◌, ◌*◌, ◌%◌, ◌<◌, ◌≤◌, MatchOption};
 ghost use Rattle.ring.specs.Places.{chip_block, first_block, positions};
 ghost use Rattle.ring.specs.Tally.{booked, begun};
 ghost use Rattle.ring.specs.Turns.{Shaped, turns_of, Turned};
 
-use crate::RingBlock;
 use crate::directory::SLOTS;
+use crate::{Position, RingBlock};
 use chip::Block;
 use label::Sizes;
 
@@ -55,6 +55,13 @@ impl Log {
         ensures { result ≡ positions self.now.layout.sizes self.now.layout.cleared - self.now.claimed }
     {
         SLOTS * self.layout.turns() - self.claimed
+    }
+
+    // The last claimed slot, if any is claimed.
+    pub fn last(&self) -> Option<Position>
+        ensures { MatchOption result (self.now.claimed ≡ 0) (λ p. p.0 + 1 ≡ self.now.claimed) }
+    {
+        Some(Position(self.claimed.checked_sub(1)?))
     }
 }
 

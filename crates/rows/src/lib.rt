@@ -6,7 +6,7 @@ ghost use Rattle.chip.specs.Steps.{Reads};
 ghost use Rattle.chip.specs.declared.Fault.TheVariants.{Cut};
 ghost use Rattle.rows.specs.Rows.{count_of, flash_of, Bytes, Placed, Masked, Filled};
 
-use chip::{BLOCK, Block, Fault, Home, MOST_BLOCKS, Span};
+use chip::{BLOCK, Block, Fault, Home, MOST_BLOCKS, Span, admit};
 
 // How many whole blocks a row has, up to the most that a chip shows. It also says that the row holds bytes, since no
 // struct over a lent row can say so of itself.
@@ -53,12 +53,7 @@ pub fn lost(name: u16, block: Block) -> Fault
 pub fn read_range(row: &[u8], on: bool, span: Span, into: &mut [u8]) -> Result<(), Fault>
     ensures { (name : ℕ) → Reads (flash_of row.now on name) span.block.0 span.at span.len into.old result into.new }
 {
-    if !span.is_within(whole_blocks(row), into.len()) {
-        return Err(Fault::Range);
-    }
-    if !on {
-        return Err(Fault::NoPower);
-    }
+    admit(span.is_within(whole_blocks(row), into.len()), on)?;
     let base = place_of(span.block, span.at);
     into.copy_from_slice(&row[base..base + into.len()]);
     Ok(())

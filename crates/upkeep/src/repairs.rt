@@ -1,5 +1,5 @@
 // Repairs: what a start does to an image that keeps the rules.
-ghost use Rattle.std.specs.Prelude.{◌≡◌, ◌%◌, ◌<◌, true};
+ghost use Rattle.std.specs.Prelude.{◌≡◌, ◌+◌, ◌%◌, true};
 ghost use Rattle.ring.specs.Logs.{unclosed_copy};
 ghost use Rattle.image.specs.Surveys.{Bounded};
 ghost use Rattle.upkeep.specs.Repairs.{last_of, Mended, Repaired};
@@ -16,10 +16,10 @@ use writes::erase::rebook;
 use writes::slot::{drop_slot, finish_copy};
 
 // Finishes the copy that is the last claimed slot, from the first live position.
-fn finish_last<C: Chip>(chip: &mut C, log: Log) -> Result<(), Fault>
+fn finish_last<C: Chip>(chip: &mut C, log: Log, last: Position) -> Result<(), Fault>
     requires stands { Bounded (C.flash chip.old) log }
     requires idle { log.layout.cleared % 2 ≡ 0 }
-    requires some { 0 < log.claimed }
+    requires last { last.0 + 1 ≡ log.claimed }
     requires copy { unclosed_copy (last_of (C.flash chip.old) log.layout.sizes log.layout.cleared log.claimed) ≡ true }
     ensures { Mended (C.flash chip.old) log result (C.flash chip.new) }
 {
@@ -27,7 +27,6 @@ fn finish_last<C: Chip>(chip: &mut C, log: Log) -> Result<(), Fault>
         return Ok(());
     };
     let entry = read_entry(chip, log.layout, source);
-    let last = Position(log.claimed - 1);
     finish_copy(chip, log.layout, last, entry.sector, &entry.page)
 }
 
@@ -36,13 +35,12 @@ fn mend_last<C: Chip>(chip: &mut C, log: Log) -> Result<(), Fault>
     requires { (Bounded (C.flash chip.old) log) × (log.layout.cleared % 2 ≡ 0) }
     ensures { Mended (C.flash chip.old) log result (C.flash chip.new) }
 {
-    if log.claimed == 0 {
+    let Some(last) = log.last() else {
         return Ok(());
-    }
-    let last = Position(log.claimed - 1);
+    };
     let flags = read_flags(chip, log.layout, last);
     if is_unclosed_copy(flags) {
-        return finish_last(chip, log);
+        return finish_last(chip, log, last);
     }
     if ends_group(flags) {
         return Ok(());

@@ -17,8 +17,9 @@ returns-then-status-eq1-clause-answers c =
     let now : eqb status.plan.step 1 ≡ true = search rules in
     let reach : c.reach-reach.result ≡ n = rw now at c.reach-reach.ensures in
     let paged : Paged (count_of image) span.block.0 span.at span.len (length given) = search rules in
+    let on : status.on ≡ true = search rules in
     let masked = first image new given (span.block.0 * 4096 + span.at) n (omega arith) (rw reach at c.burn.ensures) in
-    rw c.lost.ensures (inr (inr (refl, broke_program image new status.on status.name span.block.0 span.at span.len given n 0 paged c.if-not-status.false (omega arith) masked)))
+    rw c.lost.ensures (inr (inr (refl, broke_program image new status.on status.name span.block.0 span.at span.len given n 0 paged on (omega arith) masked)))
 
 pub returns-clause-answers : goal.returns-clause-answers
 returns-clause-answers c =
@@ -30,5 +31,6 @@ returns-clause-answers c =
     let later : eqb status.plan.step 1 ≡ false = search rules in
     let reach : c.reach-reach.result ≡ length given = rw later at c.reach-reach.ensures in
     let paged : Paged (count_of image) span.block.0 span.at span.len (length given) = search rules in
+    let on : status.on ≡ true = search rules in
     let masked = first image new given (span.block.0 * 4096 + span.at) (length given) (omega arith) (rw reach at c.burn.ensures) in
-    worked_program image new status.on status.name span.block.0 span.at span.len given paged c.if-not-status.false masked
+    worked_program image new status.on status.name span.block.0 span.at span.len given paged on masked

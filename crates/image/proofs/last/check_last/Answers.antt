@@ -1,5 +1,5 @@
 -- The last claimed slot, case by case.
-use Rattle.std.proofs.Common.{◌≡◌, ℕ, ◌+◌, ◌-◌, ◌≤◌, true, false, cond, sym, ap, ◌∙◌, subst, arith}
+use Rattle.std.proofs.Common.{◌≡◌, ℕ, ◌+◌, ◌≤◌, true, false, cond, sym, ap, ◌∙◌, subst, arith}
 use Rattle.chip.specs.Flash.{Flash}
 use Rattle.ring.specs.Places.{flags_at}
 use Rattle.ring.specs.Tally.{begun}
@@ -16,8 +16,8 @@ returns-then-ends_group g c =
     let s = g.C.Chip.flash c.args.chip.now in
     let z = c.args.log.layout.sizes in
     let n = c.args.log.layout.cleared in
-    let p = c.args.log.claimed - 1 in
-    let last : LastIs s z n p = omega (arith, c.requires.claimed) in
+    let p = c.in-Some.last.0 in
+    let last : LastIs s z n p = omega (arith, c.in-Some.ensures, c.requires.claimed) in
     let end : ends (flags_at s z n p) ≡ true = ap ends (sym c.read_flags-flags.ensures.flags) ∙ sym c.ends_group.ensures ∙ c.if-ends_group.true in
     let on : begun n ≡ true = sym c.begun.ensures ∙ c.if-begun.true in
     record {
@@ -30,12 +30,12 @@ returns-then-begun g c =
     let s = g.C.Chip.flash c.args.chip.now in
     let z = c.args.log.layout.sizes in
     let n = c.args.log.layout.cleared in
-    let p = c.args.log.claimed - 1 in
-    let last : LastIs s z n p = omega (arith, c.requires.claimed) in
+    let p = c.in-Some.last.0 in
+    let last : LastIs s z n p = omega (arith, c.in-Some.ensures, c.requires.claimed) in
     let open-group : ends (flags_at s z n p) ≡ false = ap ends (sym c.read_flags-flags.ensures.flags) ∙ sym c.ends_group.ensures ∙ c.if-ends_group.false in
     let on : begun n ≡ true = sym c.begun.ensures ∙ c.if-begun.true in
     record {
-      checked = breaks_group s z n p c.slot-place.result.0 last (omega (arith, c.requires.inside)) c.slot-place.ensures record { begun = on; last = last; inside = open-group };
+      checked = breaks_group s z n p c.slot-place.result.0 last (omega (arith, c.in-Some.ensures, c.requires.inside)) c.slot-place.ensures record { begun = on; last = last; inside = open-group };
       keeps = c.read_flags-flags.ensures.keeps;
     }
 
@@ -44,14 +44,14 @@ returns-then-spare_slots-how_many g c =
     let s = g.C.Chip.flash c.args.chip.now in
     let z = c.args.log.layout.sizes in
     let n = c.args.log.layout.cleared in
-    let p = c.args.log.claimed - 1 in
-    let last : LastIs s z n p = omega (arith, c.requires.claimed) in
+    let p = c.in-Some.last.0 in
+    let last : LastIs s z n p = omega (arith, c.in-Some.ensures, c.requires.claimed) in
     let idle : begun n ≡ false = sym c.begun.ensures ∙ c.if-begun.false in
     let copying : c.is_unclosed_copy-copying.result ≡ unclosed_copy (flags_at s z n p) = c.is_unclosed_copy-copying.ensures ∙ ap unclosed_copy c.read_flags-flags.ensures.flags in
     let spare = ap (λ b. cond {A = ℕ} b 1 0) copying in
     let live = c.how_many.ensures ∙ front_count s z n c.args.front c.requires.front in
     record {
-      checked = breaks_room s z n p c.slot-place.result.0 last (omega (arith, c.requires.inside)) c.slot-place.ensures (ended_idle s z n idle) record { idle = idle; last = last; few = omega (arith, spare, live, c.spare_slots.ensures, c.if-spare_slots-how_many.true, c.requires.claimed) };
+      checked = breaks_room s z n p c.slot-place.result.0 last (omega (arith, c.in-Some.ensures, c.requires.inside)) c.slot-place.ensures (ended_idle s z n idle) record { idle = idle; last = last; few = omega (arith, spare, live, c.spare_slots.ensures, c.if-spare_slots-how_many.true, c.requires.claimed) };
       keeps = c.read_flags-flags.ensures.keeps;
     }
 
@@ -70,8 +70,8 @@ returns-then-not-copying g c =
     let s = g.C.Chip.flash c.args.chip.now in
     let z = c.args.log.layout.sizes in
     let n = c.args.log.layout.cleared in
-    let p = c.args.log.claimed - 1 in
-    let last : LastIs s z n p = omega (arith, c.requires.claimed) in
+    let p = c.in-Some.last.0 in
+    let last : LastIs s z n p = omega (arith, c.in-Some.ensures, c.requires.claimed) in
     let idle : begun n ≡ false = sym c.begun.ensures ∙ c.if-begun.false in
     let copying : c.is_unclosed_copy-copying.result ≡ unclosed_copy (flags_at s z n p) = c.is_unclosed_copy-copying.ensures ∙ ap unclosed_copy c.read_flags-flags.ensures.flags in
     let spare = ap (λ b. cond {A = ℕ} b 1 0) copying in
@@ -87,8 +87,8 @@ returns-then-is_right_copy g c =
     let s = g.C.Chip.flash c.args.chip.now in
     let z = c.args.log.layout.sizes in
     let n = c.args.log.layout.cleared in
-    let p = c.args.log.claimed - 1 in
-    let last : LastIs s z n p = omega (arith, c.requires.claimed) in
+    let p = c.in-Some.last.0 in
+    let last : LastIs s z n p = omega (arith, c.in-Some.ensures, c.requires.claimed) in
     let idle : begun n ≡ false = sym c.begun.ensures ∙ c.if-begun.false in
     let copying : c.is_unclosed_copy-copying.result ≡ unclosed_copy (flags_at s z n p) = c.is_unclosed_copy-copying.ensures ∙ ap unclosed_copy c.read_flags-flags.ensures.flags in
     let spare = ap (λ b. cond {A = ℕ} b 1 0) copying in
@@ -105,8 +105,8 @@ returns g c =
     let s = g.C.Chip.flash c.args.chip.now in
     let z = c.args.log.layout.sizes in
     let n = c.args.log.layout.cleared in
-    let p = c.args.log.claimed - 1 in
-    let last : LastIs s z n p = omega (arith, c.requires.claimed) in
+    let p = c.in-Some.last.0 in
+    let last : LastIs s z n p = omega (arith, c.in-Some.ensures, c.requires.claimed) in
     let idle : begun n ≡ false = sym c.begun.ensures ∙ c.if-begun.false in
     let copying : c.is_unclosed_copy-copying.result ≡ unclosed_copy (flags_at s z n p) = c.is_unclosed_copy-copying.ensures ∙ ap unclosed_copy c.read_flags-flags.ensures.flags in
     let spare = ap (λ b. cond {A = ℕ} b 1 0) copying in
@@ -114,6 +114,6 @@ returns g c =
     let room : live_front s z n ≤ unclaimed s z n + cond (unclosed_copy (flags_at s z n p)) 1 0 = omega (arith, spare, live, c.spare_slots.ensures, c.if-spare_slots-how_many.false, c.requires.claimed) in
     let wrong = subst (λ (x : Flash). Copying x z n p → ⊥) c.read_flags-flags.ensures.keeps c.if-is_right_copy.ensures.tells in
     record {
-      checked = breaks_copy s z n p c.slot-place.result.0 last (omega (arith, c.requires.inside)) c.slot-place.ensures (ended_idle s z n idle) (roomy s z n p last room) record { last = last; copy = sym copying ∙ c.if-not-copying.false; wrong = wrong };
+      checked = breaks_copy s z n p c.slot-place.result.0 last (omega (arith, c.in-Some.ensures, c.requires.inside)) c.slot-place.ensures (ended_idle s z n idle) (roomy s z n p last room) record { last = last; copy = sym copying ∙ c.if-not-copying.false; wrong = wrong };
       keeps = c.is_right_copy.ensures.keeps ∙ c.read_flags-flags.ensures.keeps;
     }
