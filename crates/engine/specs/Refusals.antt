@@ -1,5 +1,6 @@
 -- The numbers of a volume's refusals: which refusal it is, and the values that come with it.
-use Rattle.std.specs.Prelude.{ℕ, List, [], ◌∷◌, slice_index}
+use Rattle.std.specs.Prelude.{ℕ, ◌<◌, List, [], ◌∷◌, slice_index}
+use Rattle.std.specs.List.{All}
 use Rattle.chip.specs.declared.Fault.{Fault}
 use Rattle.chip.specs.declared.Fault.TheVariants as fault
 use Rattle.image.specs.declared.flaw.Flaw.{Flaw}
@@ -27,6 +28,11 @@ numbers Spent = 12 ∷ []
 numbers (Cut h) = 13 ∷ h.name ∷ h.block ∷ []
 numbers Range = 14 ∷ []
 numbers NoPower = 15 ∷ []
+
+-- that each number is one of 16 bits; but a label's fault comes with a byte, which may be any
+abbrev pub Words : Refusal → List ℕ → Type 0
+Words (Label f) ns = Unit {0}
+Words e ns = All (λ n. n < 65536) ns
 
 -- the first of them: which refusal it is
 abbrev pub row : Refusal → ℕ

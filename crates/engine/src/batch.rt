@@ -12,7 +12,7 @@ use crate::memory::{Batch, Started};
 use crate::refusal::Refusal;
 use crate::serve::{batch_of, check_sector};
 use chip::{Chip, Fault, PAGE};
-use ring::directory::SLOTS;
+use ring::directory::BLOCK_SLOTS;
 use ring::layout::{Layout, Log};
 use ring::{Position, Sector};
 use upkeep::{Room, make_room};
@@ -22,7 +22,7 @@ use writes::slot::{close_slot, drop_slot, put_slot};
 const LARGEST_BATCH: u16 = 14;
 
 // The slots that stay free for the copies of a reclaim: as many as a block has.
-const SPARE: u16 = SLOTS;
+const SPARE: u16 = BLOCK_SLOTS;
 
 // Whether a batch of so many puts may be opened, after so many tickets.
 fn check_open(started: Started, puts: u16, tickets: u32) -> Result<(), Refusal>

@@ -1,6 +1,6 @@
 // Why a volume refuses a call.
-ghost use Rattle.std.specs.Prelude.{◌≡◌, ◌≤◌, [], ◌∷◌, length};
-ghost use Rattle.engine.specs.Refusals.{numbers, converted, flawed};
+ghost use Rattle.std.specs.Prelude.{◌≡◌, ◌<◌, ◌≤◌, [], ◌∷◌, length};
+ghost use Rattle.engine.specs.Refusals.{numbers, Words, converted, flawed};
 
 use chip::{Fault, Home};
 use image::{Broken, Flaw};
@@ -74,9 +74,18 @@ fn plain(number: usize) -> Numbers
     }
 }
 
+// A number of 16 bits, among a refusal's.
+fn word(n: u16) -> usize
+    ensures number { result ≡ n }
+    ensures small { result < 65536 }
+{
+    usize::from(n)
+}
+
 impl Refusal {
     pub fn as_numbers(&self) -> Numbers
-        ensures { result ≡ numbers self.now }
+        ensures numbers { result ≡ numbers self.now }
+        ensures words { Words self.now result }
     {
         match *self {
             Refusal::NotStarted => plain(1),
@@ -93,12 +102,12 @@ impl Refusal {
                 count: 2,
             },
             Refusal::Rule(broken) => Numbers {
-                values: [11, usize::from(broken.rule), usize::from(broken.place)],
+                values: [11, word(u16::from(broken.rule)), word(broken.place)],
                 count: 3,
             },
             Refusal::Spent => plain(12),
             Refusal::Cut(home) => Numbers {
-                values: [13, usize::from(home.name), usize::from(home.block)],
+                values: [13, word(home.name), word(home.block)],
                 count: 3,
             },
             Refusal::Range => plain(14),

@@ -8,7 +8,7 @@ use crate::memory::{Batch, Started};
 use crate::refusal::Refusal;
 use chip::{Chip, PAGE};
 use ring::Sector;
-use ring::directory::SLOTS;
+use ring::directory::BLOCK_SLOTS;
 use ring::layout::{Log, TALLY_BITS};
 
 // Whether a log fits the chip that it should be on. It asks for nothing that a chip would have to read.
@@ -20,7 +20,7 @@ fn fits<C: Chip>(chip: &C, log: Log) -> bool
         && sizes.fits(chip.blocks())
         && log.layout.cleared <= TALLY_BITS * u32::from(sizes.tally)
         && log.layout.cleared % 2 == 0
-        && log.claimed <= SLOTS * sizes.ring
+        && log.claimed <= BLOCK_SLOTS * sizes.ring
 }
 
 // The open batch, if it has this ticket.

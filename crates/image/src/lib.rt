@@ -14,3 +14,4 @@ pub use self::flaw::{Broken, Flaw};
 pub use self::seven::first_of;
 pub use self::survey::{Survey, find_sector, read_sector, read_slot, survey_image};
 pub use self::verdict::examine;
+pub use ring::layout::Log;

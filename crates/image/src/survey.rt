@@ -7,7 +7,7 @@ ghost use Rattle.image.specs.Surveys.{Bounded, Shown, Standing, Surveyed, Survey
 
 use chip::{Chip, ERASED, PAGE, fetch_into};
 use lookup::{live_slot, written_sectors};
-use ring::directory::SLOTS;
+use ring::directory::BLOCK_SLOTS;
 use ring::layout::Log;
 use ring::{RingBlock, Sector, Slot};
 
@@ -58,11 +58,11 @@ pub fn read_slot<C: Chip>(chip: &mut C, log: Log, slot: Slot, into: &mut [u8])
     ensures bytes { slot.0 < 7 * log.layout.sizes.ring → 0 < length into.old → length into.old ≤ 512 → (k : ℕ) → k < length into.old → slice_index into.new k ≡ (C.flash chip.old).byte (chip_block log.layout.sizes (slot.0 / 7)) (512 * (slot.0 % 7 + 1) + k) }
     ensures keeps { C.flash chip.new ≡ C.flash chip.old }
 {
-    let block = RingBlock(slot.0 / SLOTS);
+    let block = RingBlock(slot.0 / BLOCK_SLOTS);
     if block.0 >= log.layout.sizes.ring || into.is_empty() || into.len() > PAGE {
         return;
     }
-    let at = PAGE * usize::from(slot.0 % SLOTS + 1);
+    let at = PAGE * usize::from(slot.0 % BLOCK_SLOTS + 1);
     fetch_into(chip, log.layout.chip_block(block), at, into);
 }
 

@@ -8,19 +8,25 @@ use std::marker::Model;
 pub const LONGEST_LABEL: usize = 58;
 
 // A label as far as it is written: contracts see the list of its bytes. An array and a length, since there is no heap.
-#[derive(Drop)]
+#[derive(Clone, Copy)]
 pub struct LabelBytes {
     bytes: [u8; LONGEST_LABEL],
     len: usize,
 }
 
 impl Model for LabelBytes {
+    ghost use Rattle.std.specs.Prelude.{◌≡◌, ℕ, ◌-◌, ◌≤◌, List, ◌++◌, length, take, replicate, refl};
+
     ghost Value = { List ℕ };
 
-    // The first `len` bytes of the buffer are the label.
+    // The first `len` bytes of the buffer are the label; those behind it are erased.
     ghost view = { λ l. take l.len l.bytes };
 
-    ghost invariant = { λ l. l.len ≤ 58 };
+    ghost invariant = { λ l. (l.len ≤ 58) × (length (take l.len l.bytes) ≡ l.len) × (take l.len l.bytes ++ replicate (58 - l.len) 255 ≡ l.bytes) };
+
+    ghost inverse = { λ v. record { bytes = v ++ replicate (58 - length v) 255; len = length v } };
+
+    ghost inverse_ok = { λ l h. rw (h.1, h.2) refl };
 }
 
 impl LabelBytes {

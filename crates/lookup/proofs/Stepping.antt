@@ -34,5 +34,5 @@ stepped s log w ds k b h some d at e =
       next,
       refl,
       record { inside = lt; number = sector; group = group },
-      record { bound = h.bound; inside = omega (arith, h.inside); group = group; held = λ es is _. subst (Describes s (chip_block z (block_at z c p))) (same_Some _ _ is) d },
+      record { bound = h.bound; inside = omega (arith, h.inside); group = group; has = λ _ _. (ds, refl); held = λ es is _. subst (Describes s (chip_block z (block_at z c p))) (same_Some _ _ is) d },
     )

@@ -19,6 +19,7 @@ pub record Walking (s : Flash) (log : Log) (w : Walk) : Type 0 where
   pub bound : log.claimed ≤ positions log.layout.sizes log.layout.cleared
   pub inside : w.position ≤ log.claimed
   pub group : w.counting ≡ counts (drop w.position (slots_of s log))
+  pub has : (w.position ≢ log.claimed) → (w.position % 7 ≢ 0) → (ds : List Descriptor) × (w.held ≡ Some ds)
   pub held : (ds : List Descriptor) → w.held ≡ Some ds → (w.position % 7 ≢ 0) → Describes s (chip_block log.layout.sizes (block_at log.layout.sizes log.layout.cleared w.position)) ds
 
 -- a slot of the log, with its sector number and whether it counts

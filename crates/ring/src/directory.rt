@@ -5,13 +5,15 @@ ghost use Rattle.ring.specs.Directories.{Decodes, Describes};
 use crate::Sector;
 use chip::{Block, Chip, fetch};
 
-// The slots of a ring block, as a number of positions.
-pub const SLOTS: u16 = 7;
+// The slots of a ring block: as a length, and as a number of positions.
+pub const SLOTS: usize = 7;
+
+pub const BLOCK_SLOTS: u16 = SLOTS as u16;
 
 // The bytes of a descriptor, and of all that a block has.
 pub const DESCRIPTOR: usize = 4;
 
-pub const DESCRIPTORS: usize = 28;
+pub const DESCRIPTORS: usize = SLOTS * DESCRIPTOR;
 
 // What a directory says of a slot.
 #[derive(Clone, Copy)]

@@ -4,7 +4,7 @@ ghost use Rattle.ring.specs.Places.{chip_block, first_block, positions};
 ghost use Rattle.ring.specs.Tally.{booked, begun};
 ghost use Rattle.ring.specs.Turns.{Shaped, turns_of, Turned};
 
-use crate::directory::SLOTS;
+use crate::directory::BLOCK_SLOTS;
 use crate::{Position, RingBlock};
 use chip::Block;
 use label::Sizes;
@@ -54,7 +54,7 @@ impl Log {
         requires { self.now.claimed ≤ positions self.now.layout.sizes self.now.layout.cleared }
         ensures { result ≡ positions self.now.layout.sizes self.now.layout.cleared - self.now.claimed }
     {
-        SLOTS * self.layout.turns() - self.claimed
+        BLOCK_SLOTS * self.layout.turns() - self.claimed
     }
 
     // The last claimed slot, if any is claimed.

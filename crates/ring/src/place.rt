@@ -3,7 +3,7 @@ ghost use Rattle.std.specs.Prelude.{◌≡◌, ◌+◌, ◌*◌, ◌/◌, ◌%�
 ghost use Rattle.ring.specs.Places.{chip_block, block_at, slot_at, flags_at};
 ghost use Rattle.ring.specs.Turns.{Ready};
 
-use crate::directory::{DESCRIPTOR, SLOTS};
+use crate::directory::{BLOCK_SLOTS, DESCRIPTOR};
 use crate::layout::Layout;
 use crate::{Position, RingBlock, Slot};
 use chip::{Block, Chip, PAGE, fetch};
@@ -27,14 +27,14 @@ impl Position {
     pub fn slot(self, layout: Layout) -> Slot
         ensures { result.0 ≡ slot_at layout.sizes layout.cleared self.0 }
     {
-        Slot(SLOTS * self.ring_block(layout).0 + self.0 % SLOTS)
+        Slot(BLOCK_SLOTS * self.ring_block(layout).0 + self.0 % BLOCK_SLOTS)
     }
 
     // The turn at which its block comes.
     pub fn turn(self) -> u16
         ensures { result ≡ self.0 / 7 }
     {
-        self.0 / SLOTS
+        self.0 / BLOCK_SLOTS
     }
 
     // Which slot of its block it is.
@@ -42,7 +42,7 @@ impl Position {
         ensures below { result < 7 }
         ensures place { result ≡ self.0 % 7 }
     {
-        usize::from(self.0 % SLOTS)
+        usize::from(self.0 % BLOCK_SLOTS)
     }
 
     // The byte of the block at which its descriptor starts.

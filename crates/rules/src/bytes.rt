@@ -3,7 +3,7 @@ ghost use Rattle.std.specs.Prelude.{◌≡◌, ◌+◌, true, length, slice_inde
 ghost use Rattle.chip.specs.Ranges.{Tells, Within};
 ghost use Rattle.rules.specs.Bytes.{Marked};
 
-use chip::{Block, Chip, ERASED, fetch};
+use chip::{Block, Chip, ERASED, fetch_into};
 
 // Whether one of the bytes is not erased.
 fn has_mark(bytes: &[u8]) -> bool
@@ -19,5 +19,7 @@ pub fn is_marked<C: Chip, const N: usize>(chip: &mut C, block: Block, at: usize)
     ensures tells { Tells result (Marked (λ k. (C.flash chip.old).byte block.0 (at + k)) N) }
     ensures keeps { C.flash chip.new ≡ C.flash chip.old }
 {
-    has_mark(&fetch::<C, N>(chip, block, at))
+    let mut bytes = [ERASED; N];
+    fetch_into(chip, block, at, &mut bytes);
+    has_mark(&bytes)
 }

@@ -6,7 +6,7 @@ ghost use Rattle.rules.specs.Firsts.{FirstUnclaimed};
 
 use crate::turns::read_turn;
 use chip::{Chip, ERASED};
-use ring::directory::{Descriptor, SLOTS};
+use ring::directory::{BLOCK_SLOTS, Descriptor};
 use ring::layout::Layout;
 
 // The first of a block's slots that is not claimed.
@@ -26,8 +26,8 @@ pub fn claimed_slots<C: Chip>(chip: &mut C, layout: Layout) -> u16
     for turn in 0..layout.turns() {
         let slots = read_turn(chip, layout, turn);
         if let Some(j) = first_unclaimed(&slots) {
-            return SLOTS * turn + j as u16;
+            return BLOCK_SLOTS * turn + j as u16;
         }
     }
-    SLOTS * layout.turns()
+    BLOCK_SLOTS * layout.turns()
 }

@@ -7,7 +7,7 @@ ghost use Rattle.ring.specs.Turns.{Ready};
 ghost use Rattle.rules.specs.Bytes.{Spare, Strays};
 ghost use Rattle.rules.specs.Firsts.{FirstBlock};
 
-use chip::{Block, Chip, ERASED, PAGE, fetch};
+use chip::{Block, Chip, ERASED, PAGE, fetch_into};
 use ring::RingBlock;
 use ring::directory::{DESCRIPTOR, DESCRIPTORS};
 use ring::layout::Layout;
@@ -34,7 +34,9 @@ fn is_scribbled<C: Chip>(chip: &mut C, block: Block) -> bool
     ensures tells { Tells result (Strays ((C.flash chip.old).byte block.0)) }
     ensures keeps { C.flash chip.new ≡ C.flash chip.old }
 {
-    has_stray(&fetch(chip, block, 0))
+    let mut page = [ERASED; PAGE];
+    fetch_into(chip, block, 0, &mut page);
+    has_stray(&page)
 }
 
 // The first ring block with a directory that has more than its descriptors in it.

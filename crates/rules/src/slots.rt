@@ -12,7 +12,7 @@ use crate::order::is_misplaced;
 use crate::turns::read_turn;
 use crate::unclaimed::is_unclean;
 use chip::Chip;
-use ring::directory::{Descriptor, SLOTS};
+use ring::directory::{BLOCK_SLOTS, Descriptor};
 use ring::flags::{is_legal, is_numbered};
 use ring::layout::{Layout, Log};
 use ring::{Position, RingBlock, Slot};
@@ -50,8 +50,8 @@ fn first_at_turn<C: Chip, P: Property, T: Fn(&mut C, Position, &[Descriptor]) ->
     ensures keeps { C.flash chip.new ≡ C.flash chip.old }
 {
     let slots = read_turn(chip, layout, turn);
-    for j in 0..SLOTS {
-        if test(chip, Position(SLOTS * turn + j), &slots) {
+    for j in 0..BLOCK_SLOTS {
+        if test(chip, Position(BLOCK_SLOTS * turn + j), &slots) {
             return Some(j);
         }
     }
@@ -74,7 +74,7 @@ fn first_slot<C: Chip, P: Property, T: Fn(&mut C, Position, &[Descriptor]) -> bo
     for b in 0..layout.sizes.ring {
         if let Some(turn) = layout.turn_of(RingBlock(b)) {
             if let Some(j) = first_at_turn::<C, P, T>(chip, layout, &test, turn) {
-                return Some(Slot(SLOTS * b + j));
+                return Some(Slot(BLOCK_SLOTS * b + j));
             }
         }
     }

@@ -74,7 +74,7 @@ pub fn byte_of(batch: u8, put: u8) -> u8 {
 pub type Ledger = [Option<u8>; 7];
 
 // Notes what a batch holds once it is closed.
-pub fn note_batch(ledger: &mut Ledger, batch: u8, puts: u8) {
+pub fn note_batch(ledger: &mut [Option<u8>], batch: u8, puts: u8) {
     for put in 0..puts {
         if let Some(held) = ledger.get_mut(usize::from(sector_of(batch, put))) {
             *held = Some(byte_of(batch, put));

@@ -8,9 +8,9 @@ ghost use Rattle.upkeep.specs.Reclaimed.{Moved, Reclaimed};
 use chip::{Chip, Fault};
 use lookup::live_front;
 use ring::Position;
-use ring::directory::SLOTS;
+use ring::directory::BLOCK_SLOTS;
 use ring::layout::{Layout, Log};
-use writes::entry::read_entry;
+use writes::entry::{Entry, read_entry};
 use writes::erase::free_oldest;
 use writes::slot::copy_slot;
 
@@ -24,7 +24,8 @@ fn copy_live<C: Chip>(
     requires { Ready (C.flash chip.old) layout.sizes layout.cleared }
     ensures { Copies (C.flash chip.old) layout.sizes layout.cleared from.0 to.0 result (C.flash chip.new) }
 {
-    let entry = read_entry(chip, layout, from);
+    let mut entry = Entry::BLANK;
+    read_entry(chip, layout, from, &mut entry);
     copy_slot(chip, layout, to, entry.sector, &entry.page)
 }
 
@@ -60,6 +61,6 @@ pub fn reclaim<C: Chip>(chip: &mut C, log: Log) -> Result<Log, Fault>
             sizes: log.layout.sizes,
             cleared: log.layout.cleared + 2,
         },
-        claimed: (log.claimed + copies).saturating_sub(SLOTS),
+        claimed: (log.claimed + copies).saturating_sub(BLOCK_SLOTS),
     })
 }

@@ -11,7 +11,7 @@ use ring::Position;
 use ring::flags::{ends_group, is_unclosed_copy};
 use ring::layout::{Layout, Log};
 use ring::place::read_flags;
-use writes::entry::read_entry;
+use writes::entry::{Entry, read_entry};
 use writes::erase::rebook;
 use writes::slot::{drop_slot, finish_copy};
 
@@ -26,7 +26,8 @@ fn finish_last<C: Chip>(chip: &mut C, log: Log, last: Position) -> Result<(), Fa
     let Some(source) = first_of(live_front(chip, log)) else {
         return Ok(());
     };
-    let entry = read_entry(chip, log.layout, source);
+    let mut entry = Entry::BLANK;
+    read_entry(chip, log.layout, source, &mut entry);
     finish_copy(chip, log.layout, last, entry.sector, &entry.page)
 }
 
