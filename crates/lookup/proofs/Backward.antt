@@ -10,7 +10,7 @@ use Rattle.ring.proofs.Searching.{least_is, length-row, get_or-row}
 use Rattle.lookup.specs.declared.walk.Walk.{Walk}
 use Rattle.lookup.specs.declared.walk.Visit.{Visit}
 use Rattle.ring.specs.declared.layout.Log.{Log}
-use Rattle.lookup.specs.Walks.{slots_of, Stepped, hits, or_here}
+use Rattle.lookup.specs.Walks.{slots_of, Visited, Stepped, hits, or_here}
 
 -- the first m slots from one of them on are that slot and the rest
 tail_step : (s : Flash) (z : Sizes) (c m p : ℕ) → p < m → drop p (log_of s z c m) ≡ entry_at s z c p ∷ drop (p + 1) (log_of s z c m)
@@ -57,8 +57,8 @@ abbrev pub last_in : Flash → Log → ℕ → ℕ → Option ℕ
 last_in s log x p = last_from s log.layout.sizes log.layout.cleared log.claimed x p
 
 -- one step of a walk
-pub live_back : (s : Flash) (log : Log) (x : ℕ) (old new : Walk) (v : Visit) → Stepped s log old (Some v) new → last_in s log x new.position ≡ or_here (last_in s log x old.position) (hits v x) v.position
-live_back s log x old new v (next, at, h, _) =
+pub live_back : (s : Flash) (log : Log) (x : ℕ) (old new : Walk) (v : Visit) → v.position + 1 ≡ old.position → new.position ≡ v.position → Visited s log v → last_in s log x new.position ≡ or_here (last_in s log x old.position) (hits v x) v.position
+live_back s log x old new v next at h =
     ap (last_in s log x) at
     ∙ live_step s log.layout.sizes log.layout.cleared log.claimed v.position x h.inside
     ∙ ap₂ (λ p t. or_here (last_in s log x p) t v.position) next (ap₂ (λ n t. eqb n x && t) (sym h.number) (sym h.group))
@@ -92,13 +92,13 @@ pub claimed_most : (s : Flash) (z : Sizes) (c : ℕ) → claimed s z c ≤ posit
 claimed_most s z c = (least_is (λ p. eqb (flags_at s z c p) 255) (positions z c)).bound
 
 -- the first hit from the back is the live slot, and a miss changes nothing
-pub hit_is : (s : Flash) (log : Log) (x : ℕ) (old new : Walk) (v : Visit) → Stepped s log old (Some v) new → last_in s log x old.position ≡ None → hits v x ≡ true → live x (slots_of s log) ≡ Some v.position
-hit_is s log x old new v step before hit =
+pub hit_is : (s : Flash) (log : Log) (x : ℕ) (old new : Walk) (v : Visit) → v.position + 1 ≡ old.position → new.position ≡ v.position → Visited s log v → last_in s log x old.position ≡ None → hits v x ≡ true → live x (slots_of s log) ≡ Some v.position
+hit_is s log x old new v next at h before hit =
     last_kept s log.layout.sizes log.layout.cleared log.claimed x new.position v.position
-    (live_back s log x old new v step ∙ ap₂ (λ o t. or_here o t v.position) before hit)
+    (live_back s log x old new v next at h ∙ ap₂ (λ o t. or_here o t v.position) before hit)
 
-pub miss_is : (s : Flash) (log : Log) (x : ℕ) (old new : Walk) (v : Visit) → Stepped s log old (Some v) new → last_in s log x old.position ≡ None → hits v x ≡ false → last_in s log x new.position ≡ None
-miss_is s log x old new v step before miss = live_back s log x old new v step ∙ ap₂ (λ o t. or_here o t v.position) before miss
+pub miss_is : (s : Flash) (log : Log) (x : ℕ) (old new : Walk) (v : Visit) → v.position + 1 ≡ old.position → new.position ≡ v.position → Visited s log v → last_in s log x old.position ≡ None → hits v x ≡ false → last_in s log x new.position ≡ None
+miss_is s log x old new v next at h before miss = live_back s log x old new v next at h ∙ ap₂ (λ o t. or_here o t v.position) before miss
 
 -- a step on the same flash
 pub same_step : (f s : Flash) (log : Log) (old new : Walk) (v : Visit) → f ≡ s → Stepped f log old (Some v) new → Stepped s log old (Some v) new

@@ -12,7 +12,7 @@ use Rattle.lookup.specs.declared.walk.Walk.{Walk}
 use Rattle.lookup.specs.declared.walk.Visit.{Visit}
 use Rattle.lookup.specs.declared.front.Place.{Place}
 use Rattle.ring.specs.declared.layout.Log.{Log}
-use Rattle.lookup.specs.Walks.{Stepped, hits, or_here}
+use Rattle.lookup.specs.Walks.{Visited, hits, or_here}
 use Rattle.lookup.specs.Fronts.{place_at, sector_of, Told, Noted, Own}
 use Rattle.lookup.specs.Answers.{LiveFrontAmong}
 use Rattle.lookup.proofs.Backward.{last_in, last_none, live_back, last_all}
@@ -28,13 +28,13 @@ latest_none s log ds p ps e told = record {
   last = λ j lt. (told j lt).1 ∙ sym (last_none s log.layout.sizes log.layout.cleared log.claimed (place_at ps j).sector.0 p e);
 }
 
-pub noted_back : (s : Flash) (log : Log) (base old new : List Place) (w u : Walk) (v : Visit) → Stepped s log w (Some v) u → Noted old v new → Latest s log base w.position old → Latest s log base u.position new
-noted_back s log base old new w u v step noted before = record {
+pub noted_back : (s : Flash) (log : Log) (base old new : List Place) (w u : Walk) (v : Visit) → v.position + 1 ≡ w.position → u.position ≡ v.position → Visited s log v → Noted old v new → Latest s log base w.position old → Latest s log base u.position new
+noted_back s log base old new w u v next at h noted before = record {
   sector = λ j lt. (noted j lt).0 ∙ before.sector j lt;
   last = λ j lt.
       (noted j lt).1
       ∙ ap₂ (λ o x. or_here o (hits v x) v.position) (before.last j lt) (ap (λ x. x.0) (before.sector j lt))
-      ∙ sym (live_back s log (place_at base j).sector.0 w u v step);
+      ∙ sym (live_back s log (place_at base j).sector.0 w u v next at h);
 }
 
 -- a live slot is in the log

@@ -23,7 +23,7 @@ loop-visit-preserved g c =
     record {
       same = c.in-Some.ensures.keeps ∙ inv.same;
       walks = step.3;
-      latest = noted_back s c.args.log _ c.loop-visit.front.places c.note.new.self.places c.loop-visit.walk c.back.new.self v step c.note.ensures inv.latest;
+      latest = noted_back s c.args.log _ c.loop-visit.front.places c.note.new.self.places c.loop-visit.walk c.back.new.self v step.0 step.1 step.2 c.note.ensures inv.latest;
     }
 
 pub returns : goal.returns

@@ -23,7 +23,7 @@ returns-then-hits g c =
     let inv = c.loop-visit.invariant in
     let step = same_step _ s c.args.log c.loop-visit.walk c.back.new.self v inv.same c.in-Some.ensures.steps in
     let found : FoundAmong s z c.args.log.layout.cleared c.args.log.claimed c.args.sector.0 (Some c.slot.result) =
-    (v.position, hit_is s c.args.log c.args.sector.0 c.loop-visit.walk c.back.new.self v step inv.none (sym c.hits.ensures ∙ c.if-hits.true), c.slot.ensures) in
+    (v.position, hit_is s c.args.log c.args.sector.0 c.loop-visit.walk c.back.new.self v step.0 step.1 step.2 inv.none (sym c.hits.ensures ∙ c.if-hits.true), c.slot.ensures) in
     record {
       among = found;
       found = λ e. claimed_found s z c.args.log.layout.cleared c.args.log.claimed c.args.sector.0 (Some c.slot.result) e found;
@@ -39,5 +39,5 @@ loop-visit-preserved g c =
     record {
       same = c.in-Some.ensures.keeps ∙ inv.same;
       walks = step.3;
-      none = miss_is s c.args.log c.args.sector.0 c.loop-visit.walk c.back.new.self v step inv.none (sym c.hits.ensures ∙ c.if-hits.false);
+      none = miss_is s c.args.log c.args.sector.0 c.loop-visit.walk c.back.new.self v step.0 step.1 step.2 inv.none (sym c.hits.ensures ∙ c.if-hits.false);
     }

@@ -24,7 +24,7 @@ loop-visit-preserved g c =
     record {
       same = c.in-Some.ensures.keeps ∙ inv.same;
       walks = step.3;
-      marked = marked_back s c.args.log c.loop-visit.written.words c.note.new.self.words c.loop-visit.walk c.back.new.self v step c.note.ensures inv.marked;
+      marked = marked_back s c.args.log c.loop-visit.written.words c.note.new.self.words c.loop-visit.walk c.back.new.self v step.0 step.1 step.2 c.note.ensures inv.marked;
     }
 
 pub returns : goal.returns
